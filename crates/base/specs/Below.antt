@@ -1,0 +1,16 @@
+-- Tests over all numbers below a bound, which the checker computes.
+-- Assumes nothing.
+use Prim.Native.Nat.{ℕ, zero, suc, _+_}
+use mathlib.Core.Bool.{Bool, true, false, _&&_}
+use Rattle.base.specs.Pick.{pick}
+use Rattle.base.specs.Bits.{digit}
+
+-- the test passes at each number below n
+abbrev pub below : (ℕ → Bool) → ℕ → Bool
+below f zero = true
+below f (suc n) = f n && below f n
+
+-- how many numbers below n pass the test
+abbrev pub count : (ℕ → Bool) → ℕ → ℕ
+count f zero = 0
+count f (suc n) = digit (f n) + count f n

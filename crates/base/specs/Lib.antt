@@ -1,0 +1,5 @@
+pub mod Pick
+pub mod Bits
+pub mod Below
+pub mod Refusals
+pub mod Claims

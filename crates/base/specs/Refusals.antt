@@ -1,0 +1,44 @@
+-- Document 01, "Refusal numbers": the number of each refusal, the place that it names, and zero where it names none.
+-- Assumes nothing.
+use Prim.Native.Nat.{ℕ}
+use Rattle.base.specs.declared.Refusal.{Refusal}
+use Rattle.base.specs.declared.Refusal.the-variants.{Sample, ScanChip, ChipCount, PartRow, Rows, Unlisted, Keypad, Room, Field, Line, Text, Record}
+
+-- what an entry tells its caller: the answer, or a refusal's number and place
+pub data Told {ℓ} (A : Type ℓ) : Type ℓ where
+  done : A → Told A
+  refused : ℕ → ℕ → Told A
+
+-- document 01's number
+abbrev pub numberOf : Refusal → ℕ
+numberOf (Sample place) = 1
+numberOf ScanChip = 2
+numberOf ChipCount = 3
+numberOf PartRow = 4
+numberOf Rows = 5
+numberOf (Unlisted place) = 6
+numberOf (Keypad place) = 7
+numberOf Room = 8
+numberOf Field = 9
+numberOf (Line place) = 10
+numberOf Text = 11
+numberOf Record = 12
+
+-- the named place, or 0
+abbrev pub placeOf : Refusal → ℕ
+placeOf (Sample place) = place
+placeOf ScanChip = 0
+placeOf ChipCount = 0
+placeOf PartRow = 0
+placeOf Rows = 0
+placeOf (Unlisted place) = place
+placeOf (Keypad place) = place
+placeOf Room = 0
+placeOf Field = 0
+placeOf (Line place) = place
+placeOf Text = 0
+placeOf Record = 0
+
+-- a refusal, told by its number and place
+abbrev pub refusedBy {ℓ} : {A : Type ℓ} → Refusal → Told A
+refusedBy e = refused (numberOf e) (placeOf e)

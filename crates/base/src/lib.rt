@@ -1,0 +1,52 @@
+// The ground floor: the refusals that document 01 numbers, and the one leaf that cuts fields of numbers by shifts and
+// masks. Nothing here has a `requires`.
+ghost use mathlib.Core.Path.{_≡_};
+ghost use Rattle.base.specs.Bits.{cut, digit};
+
+// Why an input was refused, with the place that document 01 names, where it names one.
+pub enum Refusal {
+    // 1: a sample is above 7; the lowest such place.
+    Sample(u64),
+    // 2: a scan's chip is not below N.
+    ScanChip,
+    // 3: N is not 1 to 8.
+    ChipCount,
+    // 4: the list's length isn't a multiple of N.
+    PartRow,
+    // 5: more than 64 rows.
+    Rows,
+    // 6: a word is unlisted or above 4,095; its place in the list, 0 for a word alone.
+    Unlisted(u64),
+    // 7: a system word with KEYB 1 for a chip that isn't the last; its place in the list.
+    Keypad(u64),
+    // 8: the buffer is shorter than the samples.
+    Room,
+    // 9: a command field is out of range.
+    Field,
+    // 10: a line isn't of the form; its number from 1.
+    Line(u64),
+    // 11: the text is longer than 65,536 bytes.
+    Text,
+    // 12: a chip record or the levels hold what no chip can.
+    Record,
+}
+
+// The field of `width` bits that starts at bit `at` of a number.
+pub fn field(n: u16, at: u16, width: u16) -> u16
+    ensures { λ r. ⌜ r ≡ cut n at width ⌝ }
+{
+    if at >= 16 {
+        return 0;
+    }
+    if width >= 16 {
+        return n >> at;
+    }
+    (n >> at) & ((1 << width) - 1)
+}
+
+// The number of a bit: 1 or 0.
+pub fn digit_of(b: bool) -> u16
+    ensures { λ r. ⌜ r ≡ digit b ⌝ }
+{
+    if b { 1 } else { 0 }
+}

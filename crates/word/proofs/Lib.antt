@@ -1,0 +1,4 @@
+pub mod Rows
+pub mod RoundTrips
+pub mod Unique
+pub mod Cases
