@@ -1,13 +1,13 @@
 -- What a computed test over all numbers below a bound says of each of them.
 -- Assumes nothing.
-use mathlib.Core.Path.{_≡_, refl, ap, subst, sym}
-use mathlib.Core.Bool.{Bool, true, false, _&&_}
+use mathlib.Core.Path.{_≡_, refl, ap, subst, sym, _∙_}
+use mathlib.Core.Bool.{Bool, true, false, not, _&&_}
 use mathlib.Core.Logic.{⊎-elim}
 use Prim.Native.Nat.{ℕ, zero, suc, _≤_, _<_}
 use native.Mathlib.Nat.{not-suc-le-zero, eq-or-lt-of-le, le-of-suc-le-suc}
 use lib.Arith.{lt-of-le-ne}
-use lib.Dec.{T, leb, eqb, eqb→eq}
-use borrow.Author.Tests.{leb-true, leb-false}
+use lib.Dec.{T, leb, ltb, eqb, eqb→eq}
+use borrow.Author.Tests.{leb-true, leb-false, eqb-true, eqb-false, eq-eqb, ne-eqb, lt-ltb, le-ltb, le-leb, lt-leb}
 use Rattle.base.specs.Below.{below}
 
 pub and-left : (a b : Bool) → T (a && b) → T a
@@ -45,3 +45,20 @@ by-order {A = A} m n f g = go (leb m n) refl
     go : (t : Bool) → leb m n ≡ t → A
     go true e = f (leb-true m n e)
     go false e = g (leb-false m n e)
+
+-- two numbers are equal or not
+pub by-equality {ℓ} : {A : Type ℓ} (m n : ℕ) → (m ≡ n → A) → ((m ≡ n → ⊥) → A) → A
+by-equality {A = A} m n f g = go (eqb m n) refl
+  where
+    go : (t : Bool) → eqb m n ≡ t → A
+    go true e = f (eqb-true m n e)
+    go false e = g (eqb-false m n e)
+
+-- tests of two equations that say the same
+pub eqb-same : (m n p q : ℕ) → (m ≡ n → p ≡ q) → (p ≡ q → m ≡ n) → eqb m n ≡ eqb p q
+eqb-same m n p q f g =
+    by-equality p q (λ e. eq-eqb m n (g e) ∙ sym (eq-eqb p q e)) (λ ne. ne-eqb m n (λ e. ne (f e)) ∙ sym (ne-eqb p q ne))
+
+-- what isn't below is at least
+pub not-ltb : (a b : ℕ) → not (ltb a b) ≡ leb b a
+not-ltb a b = by-order b a (λ h. ap not (le-ltb a b h) ∙ sym (le-leb b a h)) (λ h. ap not (lt-ltb a b h) ∙ sym (lt-leb b a h))

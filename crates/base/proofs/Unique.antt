@@ -1,9 +1,13 @@
 -- Any two results that a contract allows coincide: the two forms that contracts have, and this crate's entries.
 -- Assumes nothing.
-use mathlib.Core.Path.{_≡_, ap, sym, _∙_}
+use mathlib.Core.Path.{_≡_, refl, ap, sym, _∙_}
 use mathlib.Core.Bool.{Bool}
 use Prim.Native.Nat.{ℕ}
 use Rattle.base.specs.Bits.{cut, digit}
+use Rattle.base.specs.Refusals.{Told, done, refused, verdictTells}
+use Rattle.base.specs.declared.Verdict.{Verdict}
+use Rattle.base.specs.declared.Verdict.the-variants as Verdicts
+use Rattle.base.proofs.Refusals.{refusalOf, refusal-back}
 
 -- a contract `r ≡ x`
 pub same-answer {ℓ} : {A : Type ℓ} {x r s : A} → r ≡ x → s ≡ x → r ≡ s
@@ -13,6 +17,19 @@ same-answer p q = p ∙ sym q
 pub same-telling {ℓ κ} : {A : Type ℓ} {X : Type κ} (tells : A → X) (back : X → A) → ((r : A) → back (tells r) ≡ r)
     → {x : X} (r s : A) → tells r ≡ x → tells s ≡ x → r ≡ s
 same-telling tells back e r s p q = sym (e r) ∙ ap back (same-answer p q) ∙ e s
+
+verdict : Told (Unit {0}) → Verdict
+verdict (done u) = Verdicts.Done
+verdict (refused number place) = Verdicts.Refused (refusalOf number place)
+
+verdict-back : (v : Verdict) → verdict (verdictTells v) ≡ v
+unfolding verdict
+verdict-back Verdicts.Done = refl
+verdict-back (Verdicts.Refused e) = ap Verdicts.Refused (refusal-back e)
+
+-- two verdicts that tell the same are the same
+pub same-verdict : {v w : Verdict} → verdictTells v ≡ verdictTells w → v ≡ w
+same-verdict {v} {w} e = sym (verdict-back v) ∙ ap verdict e ∙ verdict-back w
 
 -- ---- the entries
 

@@ -2,6 +2,8 @@
 -- Assumes nothing.
 use Prim.Native.Nat.{ℕ}
 use Rattle.base.specs.declared.Refusal.{Refusal}
+use Rattle.base.specs.declared.Verdict.{Verdict}
+use Rattle.base.specs.declared.Verdict.the-variants as Verdicts
 use Rattle.base.specs.declared.Refusal.the-variants.{Sample, ScanChip, ChipCount, PartRow, Rows, Unlisted, Keypad, Room, Field, Line, Text, Record}
 
 -- what an entry tells its caller: the answer, or a refusal's number and place
@@ -42,3 +44,17 @@ placeOf Record = 0
 -- a refusal, told by its number and place
 abbrev pub refusedBy {ℓ} : {A : Type ℓ} → Refusal → Told A
 refusedBy e = refused (numberOf e) (placeOf e)
+
+-- what a verdict tells
+abbrev pub verdictTells : Verdict → Told (Unit {0})
+verdictTells Verdicts.Done = done tt
+verdictTells (Verdicts.Refused e) = refusedBy e
+
+-- a value that an entry hands back, and what it tells
+pub record Outcome (S A : Type 0) : Type 0 where
+  pub state : S
+  pub told : Told A
+
+-- a refusal, with the value as it was given (zeros where none was given)
+abbrev pub handsBack : {S A : Type 0} → S → ℕ → ℕ → Outcome S A
+handsBack s number place = record { state = s; told = refused number place }

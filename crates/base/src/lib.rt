@@ -31,6 +31,12 @@ pub enum Refusal {
     Record,
 }
 
+// What an entry says that hands a value back: it did what was asked, or it refused and changed nothing.
+pub enum Verdict {
+    Done,
+    Refused(Refusal),
+}
+
 // The field of `width` bits that starts at bit `at` of a number.
 pub fn field(n: u16, at: u16, width: u16) -> u16
     ensures { λ r. ⌜ r ≡ cut n at width ⌝ }

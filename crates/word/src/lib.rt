@@ -6,7 +6,7 @@ ghost use Prim.Native.Nat.{_+_, _/_, _≤_};
 ghost use lib.Dec.{leb};
 ghost use Rattle.base.specs.Pick.{pick};
 ghost use Rattle.base.specs.Refusals.{done, refused};
-ghost use Rattle.word.specs.Words.{decodedOf, encodedOf, wordOf};
+ghost use Rattle.word.specs.Words.{decodedOf, encodedOf, wordOf, legal};
 ghost use Rattle.word.specs.Answers.{decodedTells, encodedTells};
 
 // System parameters: INTM SSPD DPLR KEYB DISP.
@@ -223,4 +223,14 @@ fn digit_word(digit: u8, byte: u8) -> Encoded
         return Encoded::Refused(Refusal::Field);
     }
     Encoded::Word(0b100000000000 + 256 * (digit as u16) + byte as u16)
+}
+
+// Whether every field of a command is in range.
+pub fn is_legal(command: Command) -> bool
+    ensures { λ r. ⌜ r ≡ legal command ⌝ }
+{
+    match encode(command) {
+        Encoded::Word(_) => true,
+        Encoded::Refused(_) => false,
+    }
 }

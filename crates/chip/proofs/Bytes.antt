@@ -1,0 +1,69 @@
+-- Bytes by their bits, over all bytes and all eight bits at once.
+--     byte-below      a byte made of bits is below 256
+--     byte-same       bytes whose eight bits agree are the same
+--     byte-back       a byte is made of its own bits
+--     bar-byte        the byte of a digit under a bar, by the number of its lit segments
+--     bit-at-most     a byte with a bit set is at least that power of two
+--     bit-made        a byte with one bit made on or off, by a sum or a difference
+-- Assumes nothing.
+use mathlib.Core.Path.{_≡_, ap}
+use mathlib.Core.Bool.{Bool, true, false}
+use Prim.Native.Nat.{ℕ, _+_, _-_, _*_, _/_, _%_, _^_, _≤_, _<_}
+use native.Mathlib.Nat.{div-eq-of-lt}
+use native.Mathlib.Omega.{arith}
+use lib.Dec.{T, eqb, leb, ltb, lit<}
+use Rattle.base.specs.Pick.{pick}
+use Rattle.base.specs.Bits.{cut, bit, digit}
+use Rattle.base.specs.Below.{below}
+use Rattle.base.proofs.Cuts.{digit-lt}
+use Rattle.base.proofs.Tests.{at-below, eq-below, by-order}
+use Rattle.chip.specs.Commands.{address, byteOf}
+
+pub byte-below : (f : ℕ → Bool) → byteOf f < 256
+byte-below f =
+    let a = digit-lt (f 0) in
+    let b = digit-lt (f 1) in
+    let c = digit-lt (f 2) in
+    let d = digit-lt (f 3) in
+    let e = digit-lt (f 4) in
+    let g = digit-lt (f 5) in
+    let h = digit-lt (f 6) in
+    let i = digit-lt (f 7) in
+    omega arith
+
+-- bytes whose eight bits agree
+pub byte-same : (f g : ℕ → Bool) → ((s : ℕ) → s < 8 → f s ≡ g s) → byteOf f ≡ byteOf g
+byte-same f g e = λ i.
+    digit (e 0 (lit< tt) i) + 2 * digit (e 1 (lit< tt) i) + 4 * digit (e 2 (lit< tt) i) + 8 * digit (e 3 (lit< tt) i)
+    + 16 * digit (e 4 (lit< tt) i)
+    + 32 * digit (e 5 (lit< tt) i)
+    + 64 * digit (e 6 (lit< tt) i)
+    + 128 * digit (e 7 (lit< tt) i)
+
+pub byte-back : (byte : ℕ) → byte < 256 → byteOf (bit byte) ≡ byte
+byte-back = eq-below (λ b. byteOf (bit b)) (λ b. b) 256 tt
+
+-- two functions of two numbers that are seen to agree below two bounds
+eq-below₂ : (f g : ℕ → ℕ → ℕ) (m n : ℕ) → T (below (λ i. below (λ j. eqb (f i j) (g i j)) n) m) → (i j : ℕ) → i < m → j < n → f i j ≡ g i j
+eq-below₂ f g m n t i j h l = eq-below (f i) (g i) n (at-below (λ x. below (λ y. eqb (f x y) (g x y)) n) m t i h) j l
+
+-- how many segments of a digit are below a level
+abbrev lit-of : ℕ → ℕ → ℕ
+lit-of level dig = (level + 7 - dig) / 8
+
+pub bar-byte : (dig level : ℕ) → dig < 8 → level < 256
+    → byteOf (λ s. ltb (address s dig) level) ≡ pick (leb 8 (lit-of level dig)) 255 (cut 255 (8 - lit-of level dig) 8)
+bar-byte =
+    eq-below₂ (λ dig level. byteOf (λ s. ltb (address s dig) level))
+    (λ dig level. pick (leb 8 (lit-of level dig)) 255 (cut 255 (8 - lit-of level dig) 8)) 8 256 tt
+
+abbrev made : Bool → ℕ → ℕ → ℕ
+made on seg byte = pick (eqb (cut byte seg 1) (digit on)) byte (pick on (byte + 2 ^ seg) (byte - 2 ^ seg))
+
+pub bit-made : (on : Bool) (seg byte : ℕ) → seg < 8 → byte < 256 → byteOf (λ s. pick (eqb s seg) on (bit byte s)) ≡ made on seg byte
+bit-made true = eq-below₂ (λ seg byte. byteOf (λ s. pick (eqb s seg) true (bit byte s))) (made true) 8 256 tt
+bit-made false = eq-below₂ (λ seg byte. byteOf (λ s. pick (eqb s seg) false (bit byte s))) (made false) 8 256 tt
+
+pub bit-at-most : (byte seg : ℕ) → (cut byte seg 1 ≡ 0 → ⊥) → 2 ^ seg ≤ byte
+bit-at-most byte seg set =
+    by-order (2 ^ seg) byte (λ h. h) (λ h. absurd (set (ap (λ x. x % 2) (div-eq-of-lt h))))

@@ -1,0 +1,4 @@
+pub mod Bytes
+pub mod Closed
+pub mod Digits
+pub mod Shapes

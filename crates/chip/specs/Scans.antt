@@ -1,0 +1,86 @@
+-- Document 01, "Key scans": a scan's result, what the scan does to a chip, and what it records.
+-- Assumes nothing.
+use Prim.Native.Nat.{ℕ, zero, suc, _+_, _-_, _*_, _/_, _%_}
+use mathlib.Core.Bool.{Bool, true, false, not, _&&_}
+use mathlib.Core.List.{List}
+use lib.Dec.{eqb, ltb}
+use lib.ListN.{getD}
+use Rattle.base.specs.Pick.{pick}
+use Rattle.base.specs.Bits.{bit, digit}
+use Rattle.chip.specs.declared.Keys.{Keys}
+use Rattle.chip.specs.declared.Chip.{Chip}
+use Rattle.chip.specs.declared.scans.Taken.{Taken}
+use Rattle.chip.specs.declared.Recorded.{Recorded}
+use Rattle.chip.specs.declared.Recorded.the-variants.{Nothing, Key}
+use Rattle.chip.specs.Record.{none}
+use Rattle.chip.specs.Commands.{withKeys, withSleeping}
+
+-- byte d, bit s is the contact of DIG d and SEG s, whose address is 8·s + d
+abbrev pub closed : List ℕ → ℕ → Bool
+closed bytes addr = bit (getD bytes (addr % 8) 0) (addr / 8)
+
+-- the first closed address of the next so many, or the address past them
+unfoldable pub firstClosed : List ℕ → ℕ → ℕ → ℕ
+firstClosed bytes zero addr = addr
+firstClosed bytes (suc more) addr = pick (closed bytes addr) addr (firstClosed bytes more (suc addr))
+
+-- the smallest closed address, or none
+unfoldable pub result : List ℕ → ℕ
+result bytes = firstClosed bytes 64 0
+
+-- a contact on SEG0 to SEG3: the addresses below 8·4
+abbrev pub wakes : ℕ → Bool
+wakes r = ltb r 32
+
+-- the code of a key: 40H + its address
+abbrev pub codeOf : ℕ → ℕ
+codeOf addr = 0x40 + addr
+
+-- bit 6 of a code cleared
+abbrev pub released : ℕ → ℕ
+released code = code - 0x40 * digit (bit code 6)
+
+-- result and last scan are the same address, and its code isn't held already
+abbrev pub newKey : ℕ → Keys → Bool
+newKey r k = eqb r (k .last) && not (eqb r none) && not (eqb (k .code) (codeOf r))
+
+-- result and last scan are both none
+abbrev pub bothNone : ℕ → Keys → Bool
+bothNone r k = eqb r none && eqb (k .last) none
+
+-- what a scan with a result does to the key record of a chip that is awake with KEYB on
+abbrev pub keyed : ℕ → Keys → Keys
+keyed r k =
+    record {
+      code = pick (newKey r k) (codeOf r) (pick (bothNone r k) (released (k .code)) (k .code));
+      interrupt = pick (newKey r k) true (k .interrupt);
+      last = r;
+    }
+
+-- asleep: a contact on SEG0 to SEG3 wakes the chip, and the last scan becomes none; otherwise nothing happens
+abbrev pub scannedAsleep : ℕ → Chip → Chip
+scannedAsleep r c =
+    pick (wakes r)
+    (withSleeping false (withKeys (record { code = c .keys .code; interrupt = c .keys .interrupt; last = none }) c))
+    c
+
+-- what a scan with a result does to a chip; awake with KEYB off: nothing
+unfoldable pub scannedBy : ℕ → Chip → Chip
+scannedBy r c =
+    pick (c .settings .sleeping) (scannedAsleep r c)
+    (pick (c .settings .system .keyb) (withKeys (keyed r (c .keys)) c) c)
+
+-- what a scan with a result records: asleep or with KEYB off nothing
+unfoldable pub recordedBy : ℕ → Chip → Recorded
+recordedBy r c =
+    pick (not (c .settings .sleeping) && c .settings .system .keyb && newKey r (c .keys)) (Key (codeOf r)) Nothing
+
+abbrev pub scanned : List ℕ → Chip → Chip
+scanned bytes c = scannedBy (result bytes) c
+
+abbrev pub recorded : List ℕ → Chip → Recorded
+recorded bytes c = recordedBy (result bytes) c
+
+-- the step that takes a scan
+abbrev pub taken : List ℕ → Chip → Taken
+taken bytes c = record { chip = scanned bytes c; recorded = recorded bytes c }
