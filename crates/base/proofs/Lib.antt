@@ -1,5 +1,6 @@
 pub mod Picks
 pub mod Cuts
 pub mod Tests
+pub mod Bytes
 pub mod Refusals
 pub mod Unique

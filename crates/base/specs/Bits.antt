@@ -1,6 +1,6 @@
 -- Bits of numbers: bit 0 is the lowest.
 -- Assumes nothing.
-use Prim.Native.Nat.{ℕ, _/_, _%_, _^_}
+use Prim.Native.Nat.{ℕ, _+_, _*_, _/_, _%_, _^_}
 use mathlib.Core.Bool.{Bool, true, false}
 use lib.Dec.{eqb}
 
@@ -16,3 +16,8 @@ bit n at = eqb (cut n at 1) 1
 abbrev pub digit : Bool → ℕ
 digit true = 1
 digit false = 0
+
+-- the byte whose bit s is as f says, for s from 0 to 7
+abbrev pub byteOf : (ℕ → Bool) → ℕ
+byteOf f =
+    digit (f 0) + 2 * digit (f 1) + 4 * digit (f 2) + 8 * digit (f 3) + 16 * digit (f 4) + 32 * digit (f 5) + 64 * digit (f 6) + 128 * digit (f 7)

@@ -15,8 +15,9 @@ use Rattle.base.specs.Pick.{pick}
 use Rattle.base.specs.Bits.{bit}
 use Rattle.base.proofs.Picks.{pick-no}
 use Rattle.base.proofs.Tests.{by-equality, eqb-same}
-use Rattle.chip.specs.Commands.{address, byteOf, lit, segment}
-use Rattle.chip.proofs.Bytes.{byte-back, byte-same}
+use Rattle.chip.specs.Commands.{address, lit, segment}
+use Rattle.base.specs.Bits.{byteOf}
+use Rattle.base.proofs.Bytes.{byte-back, byte-same}
 
 lit-at : (f : ℕ → ℕ → Bool) (dig : ℕ) → dig < 8 → getD (lit f) dig 0 ≡ byteOf (λ s. f s dig)
 lit-at f zero h = refl

@@ -1,4 +1,9 @@
-pub mod Bytes
 pub mod Closed
 pub mod Digits
 pub mod Shapes
+pub mod Valid
+pub mod Quiet
+pub mod OneScan
+pub mod Once
+pub mod Again
+pub mod Cases

@@ -6,7 +6,7 @@ use mathlib.Core.List.{List, [], _∷_}
 use lib.Dec.{eqb, ltb}
 use lib.ListN.{getD, set}
 use Rattle.base.specs.Pick.{pick}
-use Rattle.base.specs.Bits.{bit, digit}
+use Rattle.base.specs.Bits.{bit, byteOf}
 use Rattle.base.specs.Refusals.{Told, done, refused}
 use Rattle.word.specs.Words.{decodedOf}
 use Rattle.word.specs.declared.System.{System}
@@ -77,11 +77,6 @@ withInterrupt stands c = withKeys (record { code = c .keys .code; interrupt = st
 -- ADDR = 8·SEG + DIG
 abbrev pub address : ℕ → ℕ → ℕ
 address seg dig = 8 * seg + dig
-
--- the byte whose bit s is as f says, for s from 0 to 7
-abbrev pub byteOf : (ℕ → Bool) → ℕ
-byteOf f =
-    digit (f 0) + 2 * digit (f 1) + 4 * digit (f 2) + 8 * digit (f 3) + 16 * digit (f 4) + 32 * digit (f 5) + 64 * digit (f 6) + 128 * digit (f 7)
 
 -- the digits in which SEG s of DIG d is on as f says
 abbrev pub lit : (ℕ → ℕ → Bool) → List ℕ

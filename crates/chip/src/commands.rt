@@ -12,7 +12,7 @@ ghost use Prim.Native.Nat.{_<_};
 ghost use lib.Dec.{ltb, eqb};
 ghost use lib.ListN.{set};
 ghost use Rattle.base.specs.Pick.{pick};
-ghost use Rattle.base.specs.Bits.{bit};
+ghost use Rattle.base.specs.Bits.{bit, byteOf};
 ghost use Rattle.chip.specs.Record.{resetSettings, resetKeys};
 ghost use Rattle.chip.specs.Commands as C;
 ghost use Rattle.chip.specs.Edges as E;
@@ -51,7 +51,7 @@ pub fn reset_keys() -> Keys
 // The byte of one digit under a bar: segment s is lit where 8·s + dig is below the level.
 fn bar_byte(level: u8, dig: u8) -> u8
     requires { ⌜ dig < 8 ⌝ }
-    ensures { λ r. ⌜ r ≡ C.byteOf (λ s. ltb (C.address s dig) level) ⌝ }
+    ensures { λ r. ⌜ r ≡ byteOf (λ s. ltb (C.address s dig) level) ⌝ }
 {
     let lit = ((level as u16) + 7 - (dig as u16)) / 8;
     if lit >= 8 {
@@ -79,7 +79,7 @@ fn bar(level: u8) -> [u8; 8]
 // A byte with one bit made on or off.
 fn with_bit(byte: u8, seg: u8, on: bool) -> u8
     requires { ⌜ seg < 8 ⌝ }
-    ensures { λ r. ⌜ r ≡ C.byteOf (λ s. pick (eqb s seg) on (bit byte s)) ⌝ }
+    ensures { λ r. ⌜ r ≡ byteOf (λ s. pick (eqb s seg) on (bit byte s)) ⌝ }
 {
     let wide = byte as u16;
     let at = seg as u16;

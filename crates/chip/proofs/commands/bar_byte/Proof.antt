@@ -3,7 +3,7 @@
 use mathlib.Core.Path.{sym, _∙_}
 use borrow.Author.Tests.{le-leb, lt-leb}
 use Rattle.base.proofs.Picks.{pick-yes, pick-no}
-use Rattle.chip.proofs.Bytes.{bar-byte}
+use Rattle.base.proofs.Bytes.{bar-byte}
 use borrow.Author.Needs.{needs}
 use Rattle.chip.proofs.commands.bar_byte.Statement.{statement}
 use Rattle.chip.proofs.commands.bar_byte.Tie as tie

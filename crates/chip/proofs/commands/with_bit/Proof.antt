@@ -11,8 +11,8 @@ use Rattle.base.specs.Pick.{pick}
 use Rattle.base.specs.Bits.{cut, bit, digit}
 use Rattle.base.proofs.Cuts.{power-kept}
 use Rattle.base.proofs.Picks.{pick-yes, pick-no}
-use Rattle.chip.specs.Commands.{byteOf}
-use Rattle.chip.proofs.Bytes.{byte-below, bit-made, bit-at-most}
+use Rattle.base.specs.Bits.{byteOf}
+use Rattle.base.proofs.Bytes.{byte-below, bit-made, bit-at-most}
 use borrow.Author.Needs.{needs}
 use Rattle.chip.proofs.commands.with_bit.Statement.{statement}
 use Rattle.chip.proofs.commands.with_bit.Tie as tie

@@ -12,12 +12,11 @@ use Prim.Native.Nat.{ℕ, _+_, _-_, _*_, _/_, _%_, _^_, _≤_, _<_}
 use native.Mathlib.Nat.{div-eq-of-lt}
 use native.Mathlib.Omega.{arith}
 use lib.Dec.{T, eqb, leb, ltb, lit<}
 use Rattle.base.specs.Pick.{pick}
-use Rattle.base.specs.Bits.{cut, bit, digit}
+use Rattle.base.specs.Bits.{cut, bit, digit, byteOf}
 use Rattle.base.specs.Below.{below}
 use Rattle.base.proofs.Cuts.{digit-lt}
 use Rattle.base.proofs.Tests.{at-below, eq-below, by-order}
-use Rattle.chip.specs.Commands.{address, byteOf}
 
 pub byte-below : (f : ℕ → Bool) → byteOf f < 256
 byte-below f =
@@ -52,9 +51,9 @@ abbrev lit-of : ℕ → ℕ → ℕ
 lit-of level dig = (level + 7 - dig) / 8
 
 pub bar-byte : (dig level : ℕ) → dig < 8 → level < 256
-    → byteOf (λ s. ltb (address s dig) level) ≡ pick (leb 8 (lit-of level dig)) 255 (cut 255 (8 - lit-of level dig) 8)
+    → byteOf (λ s. ltb (8 * s + dig) level) ≡ pick (leb 8 (lit-of level dig)) 255 (cut 255 (8 - lit-of level dig) 8)
 bar-byte =
-    eq-below₂ (λ dig level. byteOf (λ s. ltb (address s dig) level))
+    eq-below₂ (λ dig level. byteOf (λ s. ltb (8 * s + dig) level))
     (λ dig level. pick (leb 8 (lit-of level dig)) 255 (cut 255 (8 - lit-of level dig) 8)) 8 256 tt
 
 abbrev made : Bool → ℕ → ℕ → ℕ
