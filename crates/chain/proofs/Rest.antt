@@ -2,7 +2,7 @@
 -- the definition on the rest, with what was done before it, is the definition on the whole.
 --     check-more, check-over     refusal 1's test
 --     all-more, all-over         refusal 12's test of the records
---     row-more, row-over         one sample for the first n chips
+--     row-more, row-over         one sample for the first n chips; row-length, that it keeps their number
 --     play-more, play-over       a block of samples
 --     rise-more, rise-over       the next LOAD rise
 -- Assumes nothing.
@@ -68,12 +68,14 @@ all-past n k cs h l = ap₂ allValid (one-fewer n k h) (drop-of-length-le cs l)
 
 -- ---- one sample for the first n chips
 
-pub row-more : (n k was now : ℕ) (b : Bool) (cs : List Chip) (c x : Chip) → k < n → k < length cs → x ≡ stepped was now b (getD cs k c)
-    → take (k + 1) (set cs k x) ++ steppedRow (n - (k + 1)) was now (dout (getD cs k c)) (drop (k + 1) (set cs k x))
+pub row-more : (n k was now : ℕ) (b out : Bool) (cs : List Chip) (c x : Chip) → k < n → k < length cs
+    → out ≡ dout (getD cs k c)
+    → x ≡ stepped was now b (getD cs k c)
+    → take (k + 1) (set cs k x) ++ steppedRow (n - (k + 1)) was now out (drop (k + 1) (set cs k x))
     ≡ take k cs ++ steppedRow (n - k) was now b (drop k cs)
 unfolding steppedRow
-row-more n k was now b cs c x h l e =
-    rw (add-one, take-suc-set cs k x l, drop-set-lt (suc k) cs k x above)
+row-more n k was now b out cs c x h l o e =
+    rw (add-one, take-suc-set cs k x l, drop-set-lt (suc k) cs k x above, o)
     (append-assoc (take k cs) (x ∷ []) (steppedRow (n - suc k) was now (dout (getD cs k c)) (drop (suc k) cs))
     ∙ ap (λ y. take k cs ++ y ∷ steppedRow (n - suc k) was now (dout (getD cs k c)) (drop (suc k) cs)) e
     ∙ ap (λ r. take k cs ++ r) (sym (ap₂ (λ m r. steppedRow m was now b r) fewer (drop-cons cs k c l))))
@@ -87,6 +89,12 @@ row-more n k was now b cs c x h l e =
 pub row-over : (n k was now : ℕ) (b : Bool) (cs : List Chip) → n ≤ k → take k cs ++ steppedRow (n - k) was now b (drop k cs) ≡ cs
 unfolding steppedRow
 row-over n k was now b cs h = ap (λ m. take k cs ++ steppedRow m was now b (drop k cs)) (none-left n k h) ∙ take-append-drop k cs
+
+pub row-length : (n was now : ℕ) (b : Bool) (cs : List Chip) → length (steppedRow n was now b cs) ≡ length cs
+unfolding steppedRow
+row-length zero was now b cs = refl
+row-length (suc n) was now b [] = refl
+row-length (suc n) was now b (c ∷ cs) = ap suc (row-length n was now (dout c) cs)
 
 -- ---- a block of samples
 

@@ -1,12 +1,14 @@
-// A chain of N chips, N from 1 to 8: start, play a block of samples, scan a chip, look at it, and find the next LOAD rise. Every
-// entry tests everything first, and hands the record back as it was where it refuses. Records from N on are never changed.
+// A chain of N chips, N from 1 to 8: start it, play a block of samples, scan a chip, look at it, and find the next LOAD rise.
+// Every entry tests everything first, and hands the record back as it was where it refuses. Records from N on are never changed.
 use base::Refusal;
 use base::Verdict;
 use chip::Chip;
-use chip::Recorded;
-use word::Command;
+use chip::Keys;
+use chip::Line;
+use chip::Readout;
 
 pub mod finder;
+pub mod one;
 pub mod play;
 pub mod tests;
 
@@ -26,4 +28,71 @@ pub struct Chain {
 pub struct Handed {
     pub chain: Chain,
     pub answer: Verdict,
+}
+
+// What the host sees at the last chip's DOUT, low where refused.
+pub struct Seen {
+    pub level: bool,
+    pub answer: Verdict,
+}
+
+// A record of zeros, for a refusal that was given none to hand back.
+fn zero_chain() -> Chain
+    ensures { λ r. ⌜ r ≡ E.zeroChain ⌝ }
+{
+    let zero = Chip {
+        line: Line {
+            register: 0,
+            latch: false,
+            readout: Readout { code: 0, left: 0 },
+        },
+        settings: chip::commands::reset_settings(),
+        digits: [0; 8],
+        keys: Keys {
+            code: 0,
+            interrupt: false,
+            last: 0,
+        },
+    };
+    Chain {
+        chips: [zero; 8],
+        levels: 0,
+    }
+}
+
+// N reset chips with zero registers and latches of 1, the wires idle: refusal 3.
+pub fn start(n: usize) -> Handed
+    ensures { λ r. ⌜ E.handed r ≡ E.startedOf n ⌝ }
+{
+    if !tests::is_count(n) {
+        return Handed {
+            chain: zero_chain(),
+            answer: Verdict::Refused(Refusal::ChipCount),
+        };
+    }
+    let c = chip::reset_chip();
+    Handed {
+        chain: Chain {
+            chips: [c; 8],
+            levels: 7,
+        },
+        answer: Verdict::Done,
+    }
+}
+
+// What the host sees at the last chip's DOUT: refusals 3, 12.
+pub fn host_sees(n: usize, chain: Chain) -> Seen
+    ensures { λ r. ⌜ E.handedSeen r ≡ E.seenOf n chain ⌝ }
+{
+    let test = tests::tested(n, chain);
+    match test {
+        Verdict::Refused(e) => Seen {
+            level: false,
+            answer: Verdict::Refused(e),
+        },
+        Verdict::Done => Seen {
+            level: chip::edges::dout(one::chip_at(n - 1, chain)),
+            answer: Verdict::Done,
+        },
+    }
 }

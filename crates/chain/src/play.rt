@@ -1,9 +1,13 @@
 // Playing samples. A sample without an edge touches the levels alone, a DCLK edge the line parts alone; only a LOAD rise copies
 // whole chips.
 use crate::Chain;
+use crate::Handed;
+use crate::tests;
+use base::Verdict;
 ghost use mathlib.Core.Path.{_≡_};
 ghost use Prim.Native.Nat.{_≤_};
 ghost use Rattle.chain.specs.Chain as C;
+ghost use Rattle.chain.specs.Entries as E;
 
 // One sample for every chip below N: each takes what the DOUT before it showed before this sample.
 fn stepped(n: usize, chain: Chain, sample: u8) -> Chain
@@ -72,4 +76,30 @@ fn played(n: usize, chain: Chain, samples: &[u8]) -> Chain
         }
     }
     next
+}
+
+// Plays a block of samples: refusals 3, 12, 1. All samples are tested before any is played.
+pub fn play(n: usize, chain: Chain, samples: &[u8]) -> Handed
+    ensures { λ r. ⌜ E.handed r ≡ E.playedOf n chain (now (samples .entry)) ⌝ }
+{
+    let first = tests::tested(n, chain);
+    match first {
+        Verdict::Refused(e) => Handed {
+            chain,
+            answer: Verdict::Refused(e),
+        },
+        Verdict::Done => {
+            let second = tests::checked(samples);
+            match second {
+                Verdict::Refused(e) => Handed {
+                    chain,
+                    answer: Verdict::Refused(e),
+                },
+                Verdict::Done => Handed {
+                    chain: played(n, chain, samples),
+                    answer: Verdict::Done,
+                },
+            }
+        }
+    }
 }

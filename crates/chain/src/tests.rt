@@ -49,3 +49,16 @@ pub fn checked(samples: &[u8]) -> Verdict
     }
     Verdict::Done
 }
+
+// The tests that come first in every entry on a chain: refusals 3, 12.
+pub fn tested(n: usize, chain: Chain) -> Verdict
+    ensures { λ r. ⌜ verdictTells r ≡ C.testedOf n chain ⌝ }
+{
+    if !is_count(n) {
+        return Verdict::Refused(Refusal::ChipCount);
+    }
+    if !is_valid(n, chain) {
+        return Verdict::Refused(Refusal::Record);
+    }
+    Verdict::Done
+}

@@ -4,7 +4,7 @@ use Prim.Native.Nat.{ℕ}
 use mathlib.Core.List.{List}
 use lib.Dec.{leb}
 use Rattle.base.specs.Pick.{pick}
-use Rattle.base.specs.Refusals.{Told, done, refused, Outcome, handsBack, verdictTells}
+use Rattle.base.specs.Refusals.{Told, done, refusedBy, Outcome, handsBack, verdictTells}
 use Rattle.word.specs.declared.Command.{Command}
 use Rattle.word.specs.Words.{legal}
 use Rattle.chip.specs.declared.Chip.{Chip}
@@ -40,9 +40,10 @@ sampledOf c levels sample =
     (handsBack c 12 0))
     (handsBack c 12 0)
 
-abbrev scanTells : ScanAnswer → Told Recorded
+-- what a scan's answer tells
+abbrev pub scanTells : ScanAnswer → Told Recorded
 scanTells (Scan.Took what) = done what
-scanTells (Scan.Refused e) = Rattle.base.specs.Refusals.refusedBy e
+scanTells (Scan.Refused e) = refusedBy e
 
 -- a scanned chip handed back, with what was recorded
 abbrev pub handedScan : Scanned → Outcome Chip Recorded

@@ -1,0 +1,48 @@
+-- What the tests that come first tell, and what follows from a verdict.
+--     by-done, by-refusal     an entry after a test that was passed, and after one that was not
+--     tested-done             a chain that passed has 1 to 8 chips and valid records
+-- Assumes nothing.
+use mathlib.Core.Path.{_≡_, ap, sym, subst, _∙_}
+use mathlib.Core.Bool.{Bool, true, false}
+use Prim.Native.Nat.{ℕ, _≤_}
+use lib.Dec.{T, leb, leb→le}
+use Rattle.base.specs.Pick.{pick}
+use Rattle.base.specs.Refusals.{Told, done, refused, refusedBy, Outcome, verdictTells}
+use Rattle.base.specs.declared.Refusal.{Refusal}
+use Rattle.base.specs.declared.Verdict.{Verdict}
+use Rattle.base.specs.declared.Verdict.the-variants.{Done, Refused}
+use Rattle.base.proofs.Tests.{and-left, and-right}
+use Rattle.chain.specs.declared.Chain.{Chain}
+use Rattle.chain.specs.Chain.{most, chipCount, validChain, testedOf}
+use Rattle.chain.specs.Entries.{after}
+
+pub by-done : {S A : Type 0} {v : Verdict} {t : Told (Unit {0})} (given : S) (next : Outcome S A) → verdictTells v ≡ t → v ≡ Done → after t given next ≡ next
+by-done given next e q = ap (λ x. after x given next) (sym e ∙ ap verdictTells q)
+
+pub by-refusal : {S A : Type 0} {v : Verdict} {t : Told (Unit {0})} {r : Refusal} (given : S) (next : Outcome S A)
+    → verdictTells v ≡ t
+    → v ≡ Refused r
+    → after t given next ≡ record { state = given; told = refusedBy r }
+by-refusal given next e q = ap (λ x. after x given next) (sym e ∙ ap verdictTells q)
+
+-- ---- the tests on a chain
+
+-- a telling that is no refusal
+abbrev isDone : Told (Unit {0}) → Type 0
+isDone (done u) = Unit {0}
+isDone (refused number place) = ⊥
+
+both-passed : (a b : Bool) → isDone (pick a (pick b (done tt) (refused 12 0)) (refused 3 0)) → T a × T b
+both-passed true true t = (tt, tt)
+both-passed true false t = absurd t
+both-passed false b t = absurd t
+
+pub tested-done : (n : ℕ) (ch : Chain) → testedOf n ch ≡ done tt → T (chipCount n) × T (validChain n ch)
+unfolding testedOf
+tested-done n ch e = both-passed (chipCount n) (validChain n ch) (subst isDone (sym e) tt)
+
+pub count-low : (n : ℕ) → T (chipCount n) → 1 ≤ n
+count-low n t = leb→le 1 n (and-left (leb 1 n) (leb n most) t)
+
+pub count-high : (n : ℕ) → T (chipCount n) → n ≤ most
+count-high n t = leb→le n most (and-right (leb 1 n) (leb n most) t)

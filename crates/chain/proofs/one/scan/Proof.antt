@@ -1,0 +1,48 @@
+-- `chain::one::scan` meets its contract: its tests are the definition's.
+-- Assumes nothing.
+use mathlib.Core.Path.{ap, ap₂, sym, _∙_}
+use borrow.Author.Tests.{lt-ltb, le-ltb}
+use Rattle.base.specs.Refusals.{done}
+use Rattle.base.proofs.Picks.{pick-yes, pick-no}
+use Rattle.chip.specs.declared.Chip.{Chip}
+use Rattle.chip.specs.declared.Recorded.{Recorded}
+use Rattle.chip.specs.declared.scans.Taken.{Taken}
+use Rattle.chip.specs.Scans.{scanned, recorded}
+use Rattle.chain.specs.declared.Chain.{Chain}
+use Rattle.chain.specs.Entries as E
+use Rattle.chain.proofs.Tested.{by-done, by-refusal}
+use borrow.Author.Needs.{needs}
+use Rattle.chain.proofs.one.scan.Statement.{statement}
+use Rattle.chain.proofs.one.scan.Tie as tie
+
+returns : tie.Need-returns
+unfolding E.scannedOf
+returns c = sym (by-done _ _ (c .before .before .before .tested .ensures) (c .before .enum-told .given .1) ∙ pick-no _ _ (le-ltb _ _ (c .if1 .taken)))
+
+returns-2 : tie.Need-returns-2
+unfolding E.scannedOf
+returns-2 c = sym (by-refusal _ _ (c .before .before .before .tested .ensures) (c .before .test .given .1))
+
+returns-3 : tie.Need-returns-3
+unfolding E.scannedOf
+returns-3 c =
+    let a = c .before .before .before .before .before .before .before .before .args in
+    let at = c .before .before .before .chip-at .ensures in
+    ap₂ (λ (ch : Chain) (what : Recorded). record { state = ch; told = done what })
+    (c .with-chip .ensures ∙ ap (λ (d : Chip). E.withChip (a .k) d (a .chain)) (ap (λ (t : Taken). t .chip) (c .before .before .scanned .ensures) ∙ ap (λ (d : Chip). scanned (a .bytes) d) at))
+    (ap (λ (t : Taken). t .recorded) (c .before .before .scanned .ensures) ∙ ap (λ (d : Chip). recorded (a .bytes) d) at)
+    ∙ sym (by-done _ _ (c .before .before .before .before .before .before .before .tested .ensures) (c .before .before .before .before .before .enum-told .given .1) ∙ pick-yes _ _ (lt-ltb _ _ (c .before .before .before .before .if1 .left)))
+
+pub scan-spec : {M : Type 1} → statement M
+scan-spec =
+    tie.close
+    (tie.spec
+    (λ c κs. search needs)
+    (λ c. search needs)
+    (λ c. search needs)
+    returns
+    (λ c κs. search needs)
+    (λ c κs. search needs)
+    (λ c κs. search needs)
+    returns-2
+    returns-3)

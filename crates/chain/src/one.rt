@@ -1,0 +1,128 @@
+// One chip of a chain: scan it, apply a command to it, see its segments lit.
+use crate::Chain;
+use crate::Handed;
+use crate::tests;
+use base::Refusal;
+use base::Verdict;
+use chip::Chip;
+use chip::Lit;
+use chip::ScanAnswer;
+use word::Command;
+ghost use mathlib.Core.Path.{_≡_};
+ghost use Rattle.chain.specs.Entries as E;
+
+// A scanned chain handed back, and what the scan recorded.
+pub struct Scanned {
+    pub chain: Chain,
+    pub answer: ScanAnswer,
+}
+
+// The record at a place, or a reset chip past the last.
+pub fn chip_at(k: usize, chain: Chain) -> Chip
+    ensures { λ r. ⌜ r ≡ E.chipAt k chain ⌝ }
+{
+    let chips = chain.chips;
+    if k < crate::MOST {
+        return chips[k];
+    }
+    chip::reset_chip()
+}
+
+// The chain with another record at a place; past the last, as it was.
+fn with_chip(k: usize, c: Chip, chain: Chain) -> Chain
+    ensures { λ r. ⌜ r ≡ E.withChip k c chain ⌝ }
+{
+    let mut chips = chain.chips;
+    if k < crate::MOST {
+        chips[k] = c;
+    }
+    Chain {
+        chips,
+        levels: chain.levels,
+    }
+}
+
+// Scans one chip: refusals 3, 12, 2.
+pub fn scan(n: usize, chain: Chain, k: usize, bytes: [u8; 8]) -> Scanned
+    ensures { λ r. ⌜ E.handedScan r ≡ E.scannedOf n chain k bytes ⌝ }
+{
+    let test = tests::tested(n, chain);
+    match test {
+        Verdict::Refused(e) => Scanned {
+            chain,
+            answer: ScanAnswer::Refused(e),
+        },
+        Verdict::Done => {
+            if k >= n {
+                return Scanned {
+                    chain,
+                    answer: ScanAnswer::Refused(Refusal::ScanChip),
+                };
+            }
+            let taken = chip::scans::scanned(bytes, chip_at(k, chain));
+            let after = taken.chip;
+            let what = taken.recorded;
+            Scanned {
+                chain: with_chip(k, after, chain),
+                answer: ScanAnswer::Took(what),
+            }
+        }
+    }
+}
+
+// Applies a command directly to one chip: refusals 3, 12, 9, 2.
+pub fn apply(n: usize, chain: Chain, k: usize, command: Command) -> Handed
+    ensures { λ r. ⌜ E.handed r ≡ E.appliedOf n chain k command ⌝ }
+{
+    let test = tests::tested(n, chain);
+    match test {
+        Verdict::Refused(e) => Handed {
+            chain,
+            answer: Verdict::Refused(e),
+        },
+        Verdict::Done => {
+            if !word::is_legal(command) {
+                return Handed {
+                    chain,
+                    answer: Verdict::Refused(Refusal::Field),
+                };
+            }
+            if k >= n {
+                return Handed {
+                    chain,
+                    answer: Verdict::Refused(Refusal::ScanChip),
+                };
+            }
+            let after = chip::commands::applied(command, chip_at(k, chain));
+            Handed {
+                chain: with_chip(k, after, chain),
+                answer: Verdict::Done,
+            }
+        }
+    }
+}
+
+// The segments lit of one chip: refusals 3, 12, 2.
+pub fn segments_lit(n: usize, chain: Chain, k: usize) -> Lit
+    ensures { λ r. ⌜ E.handedLit r ≡ E.segmentsOf n chain k ⌝ }
+{
+    let test = tests::tested(n, chain);
+    match test {
+        Verdict::Refused(e) => Lit {
+            segments: [0; 8],
+            answer: Verdict::Refused(e),
+        },
+        Verdict::Done => {
+            if k >= n {
+                return Lit {
+                    segments: [0; 8],
+                    answer: Verdict::Refused(Refusal::ScanChip),
+                };
+            }
+            Lit {
+                segments: chip::segments::lit(chip_at(k, chain)),
+                answer: Verdict::Done,
+            }
+        }
+    }
+}
