@@ -1,3 +1,4 @@
 pub mod Chain
+pub mod Shift
 pub mod Finder
 pub mod Entries

@@ -7,3 +7,4 @@ pub mod OneScan
 pub mod Once
 pub mod Again
 pub mod Cases
+pub mod Unique

@@ -1,0 +1,84 @@
+-- Document 01, "The writer and the finder": the samples that rows of words are written as, and the words that are accepted.
+-- Assumes nothing.
+use Prim.Native.Nat.{ℕ, zero, suc, _+_, _-_, _*_, _/_, _%_}
+use mathlib.Core.Bool.{Bool, true, false, not, _&&_}
+use mathlib.Core.List.{List, [], _∷_, _++_}
+use lib.Dec.{eqb, leb}
+use lib.ListN.{length, take, drop}
+use Rattle.base.specs.Pick.{pick}
+use Rattle.base.specs.Refusals.{Told, done, refused}
+use Rattle.word.specs.declared.Command.{Command}
+use Rattle.word.specs.declared.Command.the-variants.{NoOperation, BarLevel, SegmentClear, SegmentSet, Reset, Sleep, ShiftLeft, ShiftRight, RotateLeft, RotateRight, CustomCharacter, SystemParameters, DisplayParameters, BlinkByte, ReadKey, LoadDigit}
+use Rattle.word.specs.Words.{decodedOf}
+use Rattle.chain.specs.Chain.{chipCount}
+use Rattle.chain.specs.Shift.{rowBits, clocking}
+
+-- ---- rows
+
+-- so many rows of n words, chip 0 first in each row
+unfoldable pub cutRows : ℕ → ℕ → List ℕ → List (List ℕ)
+cutRows zero n ws = []
+cutRows (suc count) n ws = take n ws ∷ cutRows count n (drop n ws)
+
+-- the rows of a list
+abbrev pub rowsOf : ℕ → List ℕ → List (List ℕ)
+rowsOf n ws = cutRows (length ws / n) n ws
+
+-- a row's samples: a bit b is 4+b then 6+b, last chip first, lowest bit first; the row ends with 3, 7
+unfoldable pub rowSamples : List ℕ → List ℕ
+rowSamples row = clocking 4 (rowBits row) ++ 3 ∷ 7 ∷ []
+
+-- rows one after another
+unfoldable pub samplesOf : List (List ℕ) → List ℕ
+samplesOf [] = []
+samplesOf (row ∷ rows) = rowSamples row ++ samplesOf rows
+
+-- the samples that a list of words is written as
+abbrev pub written : ℕ → List ℕ → List ℕ
+written n ws = samplesOf (rowsOf n ws)
+
+-- ---- which lists are accepted
+
+-- a system word with KEYB 1
+abbrev pub keypadOn : Command → Bool
+keypadOn NoOperation = false
+keypadOn (BarLevel level) = false
+keypadOn (SegmentClear addr) = false
+keypadOn (SegmentSet addr) = false
+keypadOn Reset = false
+keypadOn Sleep = false
+keypadOn ShiftLeft = false
+keypadOn ShiftRight = false
+keypadOn RotateLeft = false
+keypadOn RotateRight = false
+keypadOn (CustomCharacter shape) = false
+keypadOn (SystemParameters s) = s .keyb
+keypadOn (DisplayParameters d) = false
+keypadOn (BlinkByte byte) = false
+keypadOn ReadKey = false
+keypadOn (LoadDigit dig byte) = false
+
+-- the place in the list is one of the last chip's
+abbrev pub forLast : ℕ → ℕ → Bool
+forLast n place = eqb (place % n) (n - 1)
+
+-- what a word at a place means for the writer: 6 where it is unlisted, 7 where it turns the keypad on before the last chip
+abbrev pub wordTest : ℕ → ℕ → Told Command → Told (Unit {0})
+wordTest n place (refused number at) = refused 6 place
+wordTest n place (done command) = pick (keypadOn command && not (forLast n place)) (refused 7 place) (done tt)
+
+-- what the first word that isn't accepted says, from a place on
+abbrev pub orElse : Told (Unit {0}) → Told (Unit {0}) → Told (Unit {0})
+orElse (done u) next = next
+orElse (refused number place) next = refused number place
+
+unfoldable pub wordsFrom : ℕ → ℕ → List ℕ → Told (Unit {0})
+wordsFrom n place [] = done tt
+wordsFrom n place (w ∷ ws) = orElse (wordTest n place (decodedOf w)) (wordsFrom n (suc place) ws)
+
+-- the list is accepted, whatever the buffer: refusals 3, 4, 5, then words from the first on
+unfoldable pub listTest : ℕ → List ℕ → Told (Unit {0})
+listTest n ws =
+    pick (chipCount n)
+    (pick (eqb (length ws % n) 0) (pick (leb (length ws / n) 64) (wordsFrom n 0 ws) (refused 5 0)) (refused 4 0))
+    (refused 3 0)
