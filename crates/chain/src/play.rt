@@ -20,8 +20,8 @@ fn stepped(n: usize, chain: Chain, sample: u8) -> Chain
     let mut k = 0;
     while k < n {
         let c = next.chips[k];
-        let out = chip::edges::dout(c);
         let s = chip::edges::stepped(c, was, sample, d);
+        let out = chip::edges::dout(c);
         next.chips[k] = s;
         d = out;
         k += 1;

@@ -37,6 +37,14 @@ samplesOf (row ∷ rows) = rowSamples row ++ samplesOf rows
 abbrev pub written : ℕ → List ℕ → List ℕ
 written n ws = samplesOf (rowsOf n ws)
 
+-- a row takes 24N + 2 samples
+abbrev pub width : ℕ → ℕ
+width n = 24 * n + 2
+
+-- samples at the front of a buffer; the bytes past them keep their contents
+abbrev pub laid : List ℕ → List ℕ → List ℕ
+laid samples out = samples ++ drop (length samples) out
+
 -- ---- which lists are accepted
 
 -- a system word with KEYB 1
@@ -61,6 +69,10 @@ keypadOn (LoadDigit dig byte) = false
 -- the place in the list is one of the last chip's
 abbrev pub forLast : ℕ → ℕ → Bool
 forLast n place = eqb (place % n) (n - 1)
+
+-- what a word means, as the decoder has it
+abbrev pub meaning : ℕ → Told Command
+meaning w = decodedOf w
 
 -- what a word at a place means for the writer: 6 where it is unlisted, 7 where it turns the keypad on before the last chip
 abbrev pub wordTest : ℕ → ℕ → Told Command → Told (Unit {0})

@@ -33,8 +33,8 @@ loop-again c =
     let a = c .before .before .before .before .before .before .args in
     let below : l .k < length (l .next .chips) = omega arith in (
       search needs,
-      length-set (l .next .chips) (l .k) (c .stepped .result) ∙ l .inv .1,
-      row-more (a .n) (l .k) (a .chain .levels) (a .sample) (l .d) (c .before .dout .result) (l .next .chips) _ (c .stepped .result) (c .before .before .before .loop-test .taken) below (c .before .dout .ensures) (c .stepped .ensures)
+      length-set (l .next .chips) (l .k) (c .before .stepped .result) ∙ l .inv .1,
+      row-more (a .n) (l .k) (a .chain .levels) (a .sample) (l .d) (c .dout .result) (l .next .chips) _ (c .before .stepped .result) (c .before .before .before .loop-test .taken) below (c .dout .ensures) (c .before .stepped .ensures)
           ∙ l .inv .2,
     )
 

@@ -1,0 +1,90 @@
+-- The events of demand 3 and the entries of a chain: what happens is what `play` and `scan` do, and neither is refused.
+--     start-asked      a chain as `start` gives it is as demand 3 asks
+--     never-refused    in the middle of a write, with any scans, the chain passes the tests that come first in every entry
+--     play-happens     so `play` leaves what its samples as events leave
+--     scan-happens     and `scan` what its scan as an event leaves
+-- Assumes nothing.
+use mathlib.Core.Path.{_≡_, refl, ap, ap₂, _∙_}
+use mathlib.Core.Bool.{Bool, true, false}
+use mathlib.Core.List.{List, [], _∷_, _++_, map}
+use Prim.Native.Nat.{ℕ, zero, suc, _<_}
+use borrow.Author.Tests.{lt-ltb}
+use lib.Dec.{T}
+use lib.ListN.{replicate}
+use Rattle.base.specs.Pick.{pick}
+use Rattle.base.specs.Refusals.{Told, done, refused, handsBack}
+use Rattle.base.proofs.Tests.{and-both}
+use Rattle.chip.specs.Record.{valid, resetChip}
+use Rattle.chip.specs.Scans.{recorded}
+use Rattle.chip.proofs.Valid.{reset-valid}
+use Rattle.chain.specs.declared.Chain.{Chain}
+use Rattle.chain.specs.Chain.{most, chipCount, allValid, validChain, testedOf, checkedFrom, steppedChain, played}
+use Rattle.chain.specs.Shift.{KeypadLast}
+use Rattle.chain.specs.Entries.{after, chipAt, startChain, playedOf, scannedOf}
+use Rattle.writer.specs.Rows.{written, listTest}
+use Rattle.demands.specs.Events.{Event, sample, scan, happened, samplesIn}
+use Rattle.demands.specs.Demand3.{Asked}
+use Rattle.demands.proofs.Chips.{any-lines}
+use Rattle.demands.proofs.Corollaries.{in-between}
+
+-- ---- the start
+
+resets-valid : (n many : ℕ) → T (allValid n (replicate many resetChip))
+unfolding allValid
+resets-valid zero many = tt
+resets-valid (suc n) zero = tt
+resets-valid (suc n) (suc many) = and-both (valid resetChip) (allValid n (replicate many resetChip)) reset-valid (resets-valid n many)
+
+resets-off : (n many : ℕ) → KeypadLast n (replicate many resetChip)
+resets-off zero many = tt
+resets-off (suc zero) many = tt
+resets-off (suc (suc n)) zero = tt
+resets-off (suc (suc n)) (suc many) = (refl, resets-off (suc n) many)
+
+pub start-asked : (n : ℕ) (ws : List ℕ) → T (chipCount n) → listTest n ws ≡ done tt → Asked n startChain ws
+start-asked n ws count accepted =
+    record {
+      count = count;
+      places = refl;
+      valid = and-both (allValid n (replicate most resetChip)) true (resets-valid n most) tt;
+      lines = any-lines (replicate most resetChip);
+      dclkHigh = refl;
+      loadHigh = refl;
+      keypad = resets-off n most;
+      accepted = accepted;
+    }
+
+-- ---- the tests that come first
+
+-- two tests passed are no refusal
+both-pass : (a b : Bool) → T a → T b → _≡_ {A = Told (Unit {0})} (pick a (pick b (done tt) (refused 12 0)) (refused 3 0)) (done tt)
+both-pass true true t u = refl
+both-pass true false t u = absurd u
+both-pass false b t u = absurd t
+
+pub never-refused : (n : ℕ) (ch : Chain) (ws : List ℕ) → Asked n ch ws → (es : List Event) (rest : List ℕ) → samplesIn es ++ rest ≡ written n ws
+    → testedOf n (happened n es ch) ≡ done tt
+unfolding testedOf
+never-refused n ch ws asked es rest whole =
+    both-pass (chipCount n) (validChain n (happened n es ch)) (asked .count) (in-between n ch ws asked es rest whole .standing .valid)
+
+-- ---- the entries
+
+played-happens : (n : ℕ) (ss : List ℕ) (ch : Chain) → played n ss ch ≡ happened n (map sample ss) ch
+unfolding played
+played-happens n [] ch = refl
+played-happens n (s ∷ ss) ch = played-happens n ss (steppedChain n s ch)
+
+pub play-happens : (n : ℕ) (ch : Chain) (ss : List ℕ) → testedOf n ch ≡ done tt → checkedFrom 0 ss ≡ done tt
+    → playedOf n ch ss ≡ record { state = happened n (map sample ss) ch; told = done tt }
+unfolding playedOf
+play-happens n ch ss e f =
+    ap₂ (λ t u. after t ch (after u ch (record { state = played n ss ch; told = done tt }))) e f
+    ∙ ap (λ x. record { state = x; told = done tt }) (played-happens n ss ch)
+
+pub scan-happens : (n : ℕ) (ch : Chain) (k : ℕ) (bytes : List ℕ) → testedOf n ch ≡ done tt → k < n
+    → scannedOf n ch k bytes ≡ record { state = happened n (scan k bytes ∷ []) ch; told = done (recorded bytes (chipAt k ch)) }
+unfolding scannedOf
+scan-happens n ch k bytes e h =
+    ap₂ (λ t b. after t ch (pick b (record { state = happened n (scan k bytes ∷ []) ch; told = done (recorded bytes (chipAt k ch)) }) (handsBack ch 2 0)))
+    e (lt-ltb k n h)

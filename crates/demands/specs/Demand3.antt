@@ -1,0 +1,85 @@
+-- Document 01, demand 3: "A chain of 1 to 8 chips in any valid state, DCLK and LOAD high, the keypad enabled on no chip but the
+-- last; any rows of commands that the writer accepts; the written samples played, with key scans falling between them anywhere.
+-- Each chip's settings, display and key record end as if its own commands, each once and in row order, and its own scans had
+-- been applied directly, a command standing where its row's LOAD rise stands. At no other sample do they change."
+-- Demand3 says it of every beginning of the written samples, so it says what stands after each sample and each scan. OwnWords
+-- says that over a whole play the commands are the rows' words, each once and in row order; NoOtherSample says by itself that
+-- other samples change nothing, whatever they are; PremisesAgain says that writes follow one another.
+-- Assumes nothing.
+use mathlib.Core.Path.{_≡_}
+use mathlib.Core.Bool.{true, false}
+use mathlib.Core.List.{List, [], _∷_, _++_, map}
+use Prim.Native.Nat.{ℕ, _<_}
+use lib.Dec.{T}
+use lib.ListN.{length}
+use Rattle.base.specs.Refusals.{done}
+use Rattle.word.specs.Words.{decodedOf}
+use Rattle.chip.specs.Record.{bodyOf}
+use Rattle.chip.specs.Edges.{dclk, load, loadRises}
+use Rattle.chip.specs.History.{after}
+use Rattle.chain.specs.declared.Chain.{Chain}
+use Rattle.chain.specs.Chain.{most, chipCount, validChain}
+use Rattle.chain.specs.Shift.{KeypadLast, LinesOnly}
+use Rattle.chain.specs.Entries.{chipAt}
+use Rattle.writer.specs.Rows.{rowsOf, written, listTest}
+use Rattle.demands.specs.Events.{Event, sample, happened, samplesIn, ScansBelow, wordFor, stepsFor, commandsIn}
+
+-- what is asked of a number of chips, a chain and a list of words
+pub record Asked (n : ℕ) (ch : Chain) (ws : List ℕ) : Type 0 where
+  -- 1 to 8 chips; the record of a chain always holds 8
+  pub count : T (chipCount n)
+  pub places : length (ch .chips) ≡ most
+  -- in any valid state
+  pub valid : T (validChain n ch)
+  -- no clock edge changes anything but line parts: true of every CH452
+  pub lines : LinesOnly (ch .chips)
+  -- DCLK and LOAD high
+  pub dclkHigh : dclk (ch .levels) ≡ true
+  pub loadHigh : load (ch .levels) ≡ true
+  -- the keypad enabled on no chip but the last
+  pub keypad : KeypadLast n (ch .chips)
+  -- rows of commands that the writer accepts
+  pub accepted : listTest n ws ≡ done tt
+
+-- after any events whose samples are a beginning of the written ones, each chip's settings, display and key record are as if
+-- its own commands and scans had been applied directly
+abbrev pub Demand3 : Type 0
+Demand3 =
+    (n : ℕ) (ch : Chain) (ws : List ℕ)
+    → Asked n ch ws
+    → (es : List Event) (rest : List ℕ)
+    → ScansBelow n es
+    → samplesIn es ++ rest ≡ written n ws
+    → (k : ℕ) → k < n
+    → bodyOf (chipAt k (happened n es ch)) ≡ bodyOf (after (stepsFor k (ch .levels) (rowsOf n ws) es) (chipAt k ch))
+
+-- over a whole play the commands told to chip k are those of its words of the rows, each once and in row order, whatever scans
+-- fall between
+abbrev pub OwnWords : Type 0
+OwnWords =
+    (n : ℕ) (ch : Chain) (ws : List ℕ)
+    → Asked n ch ws
+    → (es : List Event)
+    → samplesIn es ≡ written n ws
+    → (k : ℕ) → k < n
+    → map done (commandsIn (stepsFor k (ch .levels) (rowsOf n ws) es)) ≡ map (λ row. decodedOf (wordFor k row)) (rowsOf n ws)
+
+-- after any events, a sample without a LOAD rise changes no chip's settings, display and key record
+abbrev pub NoOtherSample : Type 0
+NoOtherSample =
+    (n : ℕ) (ch : Chain) (es : List Event) (s : ℕ)
+    → LinesOnly (happened n es ch .chips)
+    → loadRises (happened n es ch .levels) s ≡ false
+    → (k : ℕ)
+    → bodyOf (chipAt k (happened n (es ++ sample s ∷ []) ch)) ≡ bodyOf (chipAt k (happened n es ch))
+
+-- after a whole play, with any scans, the chain is as asked for any other list that the writer accepts
+abbrev pub PremisesAgain : Type 0
+PremisesAgain =
+    (n : ℕ) (ch : Chain) (ws : List ℕ)
+    → Asked n ch ws
+    → (es : List Event)
+    → samplesIn es ≡ written n ws
+    → (vs : List ℕ)
+    → listTest n vs ≡ done tt
+    → Asked n (happened n es ch) vs

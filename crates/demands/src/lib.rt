@@ -1,0 +1,1 @@
+// The demands: theorems alone, no code.

@@ -1,0 +1,3 @@
+pub mod Tests
+pub mod Filling
+pub mod Stretches
