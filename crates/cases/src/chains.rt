@@ -31,7 +31,7 @@ fn verdict(v: Verdict) {
 }
 
 // A refusal's number and place.
-fn refusal(e: Refusal) {
+pub fn refusal(e: Refusal) {
     match e {
         Refusal::Sample(place) => numbered(1, place),
         Refusal::ScanChip => numbered(2, 0),

@@ -4,9 +4,11 @@ mod chains;
 mod chips;
 mod text;
 mod words;
+mod writes;
 
 fn main() {
     words::run();
     chips::run();
     chains::run();
+    writes::run();
 }

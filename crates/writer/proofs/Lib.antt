@@ -1,3 +1,4 @@
 pub mod Tests
 pub mod Filling
 pub mod Stretches
+pub mod Unique
