@@ -120,9 +120,10 @@ fn write_row(words: &[u16], out: &mut [u8])
     let n = words.len();
     let mut k = 0;
     while k < n {
+        let from_end = n - 1 - k;
         let a = 24 * k;
         let e = a + 24;
-        write_word(words[n - 1 - k], &mut out[a..e]);
+        write_word(words[from_end], &mut out[a..e]);
         k += 1;
     }
     let end = 24 * n;
