@@ -1,5 +1,6 @@
 -- What follows from demand 3, and from what its proof carries along.
 --     own-words           a whole play tells chip k the commands of its words of the rows, each once and in row order, whatever scans fall between
+--     happened-append     events in two parts
 --     no-other-sample     after any events a sample without a LOAD rise changes no chip's settings, display and key record
 --     in-between          after any beginning of a play the chain is valid still, the keypad off before the last chip
 --     premises-again      after a whole play, with any scans, the chain is as demand 3 asks for it, so writes follow one another
@@ -79,7 +80,7 @@ own-words n ch ws asked es whole =
 
 -- ---- at no other sample
 
-happened-append : (n : ℕ) (es fs : List Event) (ch : Chain) → happened n (es ++ fs) ch ≡ happened n fs (happened n es ch)
+pub happened-append : (n : ℕ) (es fs : List Event) (ch : Chain) → happened n (es ++ fs) ch ≡ happened n fs (happened n es ch)
 happened-append n [] fs ch = refl
 happened-append n (e ∷ es) fs ch = happened-append n es fs (happens n e ch)
 

@@ -1,6 +1,7 @@
 -- The events of demand 3 and the entries of a chain: what happens is what `play` and `scan` do, and neither is refused.
 --     start-asked      a chain as `start` gives it is as demand 3 asks
---     never-refused    in the middle of a write, with any scans, the chain passes the tests that come first in every entry
+--     going-tested     a chain in the middle of a write passes the tests that come first in every entry
+--     never-refused    so does the chain after any beginning of a play, with any scans
 --     play-happens     so `play` leaves what its samples as events leave
 --     scan-happens     and `scan` what its scan as an event leaves
 -- Assumes nothing.
@@ -21,10 +22,11 @@ use Rattle.chain.specs.declared.Chain.{Chain}
 use Rattle.chain.specs.Chain.{most, chipCount, allValid, validChain, testedOf, checkedFrom, steppedChain, played}
 use Rattle.chain.specs.Shift.{KeypadLast}
 use Rattle.chain.specs.Entries.{after, chipAt, startChain, playedOf, scannedOf}
-use Rattle.writer.specs.Rows.{written, listTest}
+use Rattle.writer.specs.Rows.{rowsOf, written, listTest}
 use Rattle.demands.specs.Events.{Event, sample, scan, happened, samplesIn}
 use Rattle.demands.specs.Demand3.{Asked}
 use Rattle.demands.proofs.Chips.{any-lines}
+use Rattle.demands.proofs.Going.{Going, rowsLeft}
 use Rattle.demands.proofs.Corollaries.{in-between}
 
 -- ---- the start
@@ -62,11 +64,14 @@ both-pass true true t u = refl
 both-pass true false t u = absurd u
 both-pass false b t u = absurd t
 
+pub going-tested : (n : ℕ) (ch : Chain) (rows : List (List ℕ)) (ss : List ℕ) → T (chipCount n) → Going n most ch rows ss → testedOf n ch ≡ done tt
+unfolding testedOf
+going-tested n ch rows ss count g = both-pass (chipCount n) (validChain n ch) count (g .standing .valid)
+
 pub never-refused : (n : ℕ) (ch : Chain) (ws : List ℕ) → Asked n ch ws → (es : List Event) (rest : List ℕ) → samplesIn es ++ rest ≡ written n ws
     → testedOf n (happened n es ch) ≡ done tt
-unfolding testedOf
 never-refused n ch ws asked es rest whole =
-    both-pass (chipCount n) (validChain n (happened n es ch)) (asked .count) (in-between n ch ws asked es rest whole .standing .valid)
+    going-tested n (happened n es ch) (rowsLeft (ch .levels) (rowsOf n ws) es) rest (asked .count) (in-between n ch ws asked es rest whole)
 
 -- ---- the entries
 

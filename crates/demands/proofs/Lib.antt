@@ -5,3 +5,4 @@ pub mod Going
 pub mod Demand3
 pub mod Corollaries
 pub mod Entries
+pub mod Calls
