@@ -5,3 +5,4 @@ pub mod Bytes
 pub mod Lists
 pub mod Refusals
 pub mod Unique
+pub mod Claims

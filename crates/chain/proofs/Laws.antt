@@ -10,6 +10,7 @@
 --     quiet-chain        the same of a chain
 --     lines-kept         chips that differ in line parts only are alike in what clocks can change
 --     keypad-kept        and in where the keypad is on
+--     one-alone          a scan or a command given to chip k leaves every other chip as it is
 -- Assumes nothing.
 use mathlib.Core.Path.{_≡_, refl, ap, ap₂, sym, _∙_}
 use mathlib.Core.Bool.{Bool, false}
@@ -20,11 +21,12 @@ use native.Mathlib.Omega.{arith}
 use borrow.Author.Tests.{leb-true}
 use lib.Dec.{T, leb, le→leb}
 use lib.ListN.{length, drop}
+use lib.Seq.{getD-set-other}
 use Rattle.base.specs.Refusals.{done}
 use Rattle.base.proofs.Picks.{pick-cases}
 use Rattle.base.proofs.Tests.{and-left, and-right, and-both}
 use Rattle.chip.specs.declared.Chip.{Chip}
-use Rattle.chip.specs.Record.{Body, bodyOf, valid}
+use Rattle.chip.specs.Record.{Body, bodyOf, valid, resetChip}
 use Rattle.chip.specs.Commands.{dout}
 use Rattle.chip.specs.Edges.{loadRises, din, stepped}
 use Rattle.chip.specs.Quiet.{ClocksMoveLinesOnly}
@@ -32,6 +34,7 @@ use Rattle.chip.proofs.Quiet.{quiet}
 use Rattle.chip.proofs.Valid.{stepped-valid}
 use Rattle.chain.specs.declared.Chain.{Chain}
 use Rattle.chain.specs.Chain.{allValid, validChain, checkedFrom, steppedRow, steppedChain, played}
+use Rattle.chain.specs.Entries.{chipAt, withChip}
 use Rattle.chain.specs.Shift.{AllBelow, LinesOnly, KeypadLast, lastOf}
 
 -- ---- blocks
@@ -120,3 +123,8 @@ keypad-kept (suc (suc n)) cs [] e k = tt
 keypad-kept (suc (suc n)) [] (d ∷ ds) e k = absurd (nil≢cons e)
 keypad-kept (suc (suc n)) (c ∷ cs) (d ∷ ds) e k =
     (ap (λ (b : Body). b .settings .system .keyb) (sym (head-eq-of-cons-eq e)) ∙ k .0, keypad-kept (suc n) cs ds (tail-eq-of-cons-eq e) (k .1))
+
+-- ---- one chip of a chain
+
+pub one-alone : (k j : ℕ) (c : Chip) (ch : Chain) → (j ≡ k → ⊥) → chipAt j (withChip k c ch) ≡ chipAt j ch
+one-alone k j c ch ne = getD-set-other (ch .chips) k j c resetChip ne

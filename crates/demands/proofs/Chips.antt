@@ -17,7 +17,7 @@ use native.Mathlib.Omega.{arith}
 use borrow.Author.Tests.{eqb-true, eqb-false}
 use lib.Dec.{T, eqb}
 use lib.ListN.{length, getD, set, take, length-set, List·getD-map}
-use lib.Seq.{getD-set-same, getD-set-other, map-set-same}
+use lib.Seq.{getD-set-same, map-set-same}
 use Rattle.base.specs.Refusals.{Told, done, refused}
 use Rattle.base.proofs.Picks.{pick-cases}
 use Rattle.base.proofs.Tests.{and-left, and-right, and-both}
@@ -35,7 +35,7 @@ use Rattle.chain.specs.declared.Chain.{Chain}
 use Rattle.chain.specs.Chain.{allValid, steppedRow, steppedChain}
 use Rattle.chain.specs.Shift.{KeypadLast, LinesOnly, heldOf, held}
 use Rattle.chain.specs.Entries.{chipAt, withChip}
-use Rattle.chain.proofs.Laws.{quiet-chain, keypad-kept}
+use Rattle.chain.proofs.Laws.{quiet-chain, keypad-kept, one-alone}
 use Rattle.chain.proofs.Rest.{row-length}
 use Rattle.demands.specs.Events.{wordFor, commandOf, toldAt, scanAt}
 use Rattle.demands.proofs.Writes.{registersIn, AtSample}
@@ -170,7 +170,7 @@ module _ (n j : ℕ) (bytes : List ℕ) (ch : Chain) where
       (ap (λ i. getD (after-scan .chips) i resetChip) (sym (eqb-true j k e))
       ∙ getD-set-same (ch .chips) j (scanned bytes (chipAt j ch)) resetChip h
       ∙ ap (λ i. scanned bytes (chipAt i ch)) (eqb-true j k e)))
-      (λ e. ap bodyOf (getD-set-other (ch .chips) j k (scanned bytes (chipAt j ch)) resetChip (λ q. eqb-false j k e (sym q))))
+      (λ e. ap bodyOf (one-alone j k (scanned bytes (chipAt j ch)) ch (λ q. eqb-false j k e (sym q))))
 
   pub scan-keypad : KeypadLast n (ch .chips) → KeypadLast n (after-scan .chips)
   scan-keypad p =

@@ -6,3 +6,4 @@ pub mod Demand3
 pub mod Corollaries
 pub mod Entries
 pub mod Calls
+pub mod Cases

@@ -1,0 +1,13 @@
+-- P1 to P12 hold.
+--     paper-cases     every claim of specs/Cases.antt
+-- Assumes nothing.
+use Rattle.base.specs.Claims.{All}
+use Rattle.base.proofs.Claims.{all-append}
+use Rattle.word.specs.Cases.{wordCases}
+use Rattle.word.proofs.Cases.{word-cases}
+use Rattle.chip.specs.Cases.{chipCases}
+use Rattle.chip.proofs.Cases.{chip-cases}
+use Rattle.demands.specs.Cases.{paperCases}
+
+pub paper-cases : All paperCases
+paper-cases = all-append wordCases chipCases word-cases chip-cases
