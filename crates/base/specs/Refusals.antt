@@ -11,6 +11,11 @@ pub data Told {ℓ} (A : Type ℓ) : Type ℓ where
   done : A → Told A
   refused : ℕ → ℕ → Told A
 
+-- what was told is an answer, and no refusal
+abbrev pub IsDone {ℓ} : {A : Type ℓ} → Told A → Type 0
+IsDone (done answer) = Unit {0}
+IsDone (refused number place) = ⊥
+
 -- document 01's number
 abbrev pub numberOf : Refusal → ℕ
 numberOf (Sample place) = 1

@@ -7,7 +7,7 @@ use mathlib.Core.Bool.{Bool, true, false}
 use Prim.Native.Nat.{ℕ, _≤_}
 use lib.Dec.{T, leb, leb→le}
 use Rattle.base.specs.Pick.{pick}
-use Rattle.base.specs.Refusals.{Told, done, refused, refusedBy, Outcome, verdictTells}
+use Rattle.base.specs.Refusals.{Told, IsDone, done, refused, refusedBy, Outcome, verdictTells}
 use Rattle.base.specs.declared.Refusal.{Refusal}
 use Rattle.base.specs.declared.Verdict.{Verdict}
 use Rattle.base.specs.declared.Verdict.the-variants.{Done, Refused}
@@ -27,19 +27,14 @@ by-refusal given next e q = ap (λ x. after x given next) (sym e ∙ ap verdictT
 
 -- ---- the tests on a chain
 
--- a telling that is no refusal
-abbrev isDone : Told (Unit {0}) → Type 0
-isDone (done u) = Unit {0}
-isDone (refused number place) = ⊥
-
-both-passed : (a b : Bool) → isDone (pick a (pick b (done tt) (refused 12 0)) (refused 3 0)) → T a × T b
+both-passed : (a b : Bool) → IsDone {A = Unit {0}} (pick a (pick b (done tt) (refused 12 0)) (refused 3 0)) → T a × T b
 both-passed true true t = (tt, tt)
 both-passed true false t = absurd t
 both-passed false b t = absurd t
 
 pub tested-done : (n : ℕ) (ch : Chain) → testedOf n ch ≡ done tt → T (chipCount n) × T (validChain n ch)
 unfolding testedOf
-tested-done n ch e = both-passed (chipCount n) (validChain n ch) (subst isDone (sym e) tt)
+tested-done n ch e = both-passed (chipCount n) (validChain n ch) (subst IsDone (sym e) tt)
 
 pub count-low : (n : ℕ) → T (chipCount n) → 1 ≤ n
 count-low n t = leb→le 1 n (and-left (leb 1 n) (leb n most) t)

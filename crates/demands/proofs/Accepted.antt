@@ -6,16 +6,16 @@
 use mathlib.Core.Path.{_≡_, refl, ap, sym, subst, _∙_}
 use mathlib.Core.Bool.{Bool, true, false, not, _&&_}
 use mathlib.Core.List.{List, [], _∷_}
-use Prim.Native.Nat.{ℕ, zero, suc, _+_, _-_, _*_, _/_, _%_, _≤_, _<_, suc-le-suc}
+use Prim.Native.Nat.{ℕ, zero, suc, _+_, _-_, _*_, _/_, _≤_, _<_, suc-le-suc}
 use native.Mathlib.Nat.{not-suc-le-zero, le-of-suc-le-suc, div-mul-le-self, zero-mul, zero-lt-suc, lt-of-lt-of-le}
 use native.Mathlib.Omega.{arith}
 use borrow.Author.Tests.{ne-eqb}
 use lib.Arith.{digits-mod}
-use lib.Dec.{eqb, leb}
+use lib.Dec.{eqb}
 use lib.ListN.{length, getD, drop, length-drop}
 use lib.Seq.{getD-take, getD-drop, length-take-le}
 use Rattle.base.specs.Pick.{pick}
-use Rattle.base.specs.Refusals.{Told, done, refused}
+use Rattle.base.specs.Refusals.{Told, IsDone, done, refused}
 use Rattle.base.proofs.Picks.{pick-cases}
 use Rattle.base.proofs.Tests.{by-order}
 use Rattle.word.specs.Words.{decodedOf}
@@ -24,9 +24,9 @@ use Rattle.word.specs.declared.Command.the-variants.{NoOperation, BarLevel, Seg
 use Rattle.word.proofs.Rows.{above-unlisted}
 use Rattle.chip.specs.declared.Chip.{Chip}
 use Rattle.chip.specs.Commands.{applied, obey, reset, system, readKey, woken}
-use Rattle.chain.specs.Chain.{chipCount}
 use Rattle.chain.specs.Shift.{AllBelow}
 use Rattle.writer.specs.Rows.{cutRows, rowsOf, keypadOn, forLast, wordTest, orElse, wordsFrom, listTest}
+use Rattle.writer.proofs.Tests.{list-passed}
 use Rattle.demands.specs.Events.{wordFor}
 use Rattle.demands.proofs.Writes.{RowsOf}
 
@@ -49,50 +49,45 @@ Fits n (row ∷ rows) = RowFits n row × Fits n rows
 
 -- ---- the writer's tests
 
--- a test that was passed is no refusal
-abbrev Passed : Told (Unit {0}) → Type 0
-Passed (done u) = Unit {0}
-Passed (refused number place) = ⊥
-
-passed-first : (t next : Told (Unit {0})) → Passed (orElse t next) → Passed t
+passed-first : (t next : Told (Unit {0})) → IsDone (orElse t next) → IsDone t
 passed-first (done u) next p = tt
 passed-first (refused number place) next p = p
 
-passed-next : (t next : Told (Unit {0})) → Passed (orElse t next) → Passed next
+passed-next : (t next : Told (Unit {0})) → IsDone (orElse t next) → IsDone next
 passed-next (done u) next p = p
 passed-next (refused number place) next p = absurd p
 
 -- the test of each place, for a list that passed
-words-at : (n place : ℕ) (ws : List ℕ) → Passed (wordsFrom n place ws) → (p : ℕ) → p < length ws → Passed (wordTest n (place + p) (decodedOf (getD ws p 0)))
+words-at : (n place : ℕ) (ws : List ℕ) → IsDone (wordsFrom n place ws) → (p : ℕ) → p < length ws → IsDone (wordTest n (place + p) (decodedOf (getD ws p 0)))
 unfolding wordsFrom
 words-at n place [] t p h = absurd (not-suc-le-zero h)
 words-at n place (w ∷ ws) t zero h =
-    subst (λ x. Passed (wordTest n x (decodedOf w))) same (passed-first (wordTest n place (decodedOf w)) (wordsFrom n (suc place) ws) t)
+    subst (λ x. IsDone (wordTest n x (decodedOf w))) same (passed-first (wordTest n place (decodedOf w)) (wordsFrom n (suc place) ws) t)
   where
     same : place ≡ place + 0
     same = omega arith
 words-at n place (w ∷ ws) t (suc p) h =
-    subst (λ x. Passed (wordTest n x (decodedOf (getD ws p 0)))) same
+    subst (λ x. IsDone (wordTest n x (decodedOf (getD ws p 0)))) same
     (words-at n (suc place) ws (passed-next (wordTest n place (decodedOf w)) (wordsFrom n (suc place) ws) t) p (le-of-suc-le-suc h))
   where
     same : suc place + p ≡ place + suc p
     same = omega arith
 
 -- a word that passed the test at chip k's place of row m
-word-fit : (n m k : ℕ) (o : Told Command) → k < n → Passed (wordTest n (m * n + k) o) → Fit n k o
+word-fit : (n m k : ℕ) (o : Told Command) → k < n → IsDone (wordTest n (m * n + k) o) → Fit n k o
 word-fit n m k (refused number place) h t = t
-word-fit n m k (done command) h t = λ l. off (keypadOn command) (subst (λ x. Passed (pick (keypadOn command && not x) (refused 7 (m * n + k)) (done tt))) (not-last l) t)
+word-fit n m k (done command) h t = λ l. off (keypadOn command) (subst (λ x. IsDone (pick (keypadOn command && not x) (refused 7 (m * n + k)) (done tt))) (not-last l) t)
   where
     not-last : suc k < n → forLast n (m * n + k) ≡ false
     not-last l = ap (λ x. eqb x (n - 1)) (digits-mod m h) ∙ ne-eqb k (n - 1) (λ e. omega arith)
 
-    off : (b : Bool) → Passed (pick (b && not false) (refused 7 (m * n + k)) (done tt)) → b ≡ false
+    off : (b : Bool) → IsDone {A = Unit {0}} (pick (b && not false) (refused 7 (m * n + k)) (done tt)) → b ≡ false
     off true p = absurd p
     off false p = refl
 
 -- so many rows, from row m on
 rows-fit : (count n m : ℕ) (ws : List ℕ) → count * n ≤ length ws
-    → ((p : ℕ) → p < length ws → Passed (wordTest n (m * n + p) (decodedOf (getD ws p 0))))
+    → ((p : ℕ) → p < length ws → IsDone (wordTest n (m * n + p) (decodedOf (getD ws p 0))))
     → Fits n (cutRows count n ws)
 unfolding cutRows
 rows-fit zero n m ws h t = tt
@@ -107,27 +102,16 @@ rows-fit (suc count) n m ws h t = (
     enough : n ≤ length ws
     enough = omega arith
 
-    later : (p : ℕ) → p < length (drop n ws) → Passed (wordTest n (suc m * n + p) (decodedOf (getD (drop n ws) p 0)))
+    later : (p : ℕ) → p < length (drop n ws) → IsDone (wordTest n (suc m * n + p) (decodedOf (getD (drop n ws) p 0)))
     later p h =
         let place : m * n + (n + p) ≡ suc m * n + p = omega arith in
         let inside : n + p < length ws = omega (arith, length-drop n ws) in
-        rw (getD-drop n ws p 0) (subst (λ x. Passed (wordTest n x (decodedOf (getD ws (n + p) 0)))) place (t (n + p) inside))
-
--- the tests before the words'
-words-tested : (a b c : Bool) (t : Told (Unit {0})) → Passed (pick a (pick b (pick c t (refused 5 0)) (refused 4 0)) (refused 3 0)) → Passed t
-words-tested true true true t p = p
-words-tested true true false t p = absurd p
-words-tested true false c t p = absurd p
-words-tested false b c t p = absurd p
+        rw (getD-drop n ws p 0) (subst (λ x. IsDone (wordTest n x (decodedOf (getD ws (n + p) 0)))) place (t (n + p) inside))
 
 pub rows-accepted : (n : ℕ) (ws : List ℕ) → listTest n ws ≡ done tt → Fits n (rowsOf n ws)
-unfolding listTest
 rows-accepted n ws e =
     rows-fit (length ws / n) n 0 ws (div-mul-le-self (length ws) n)
-    (λ p h.
-    rw (zero-mul n)
-    (words-at n 0 ws
-    (words-tested (chipCount n) (eqb (length ws % n) 0) (leb (length ws / n) 64) (wordsFrom n 0 ws) (subst Passed (sym e) tt)) p h))
+    (λ p h. rw (zero-mul n) (words-at n 0 ws (list-passed n ws e .each) p h))
 
 -- ---- fit words as registers hold them
 

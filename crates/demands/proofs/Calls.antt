@@ -21,7 +21,7 @@ use lib.ListN.{length, take, drop}
 use lib.Seq.{take-at}
 use Rattle.base.specs.Pick.{pick}
 use Rattle.base.specs.declared.Verdict.the-variants as Verdicts
-use Rattle.base.specs.Refusals.{Told, done, refused}
+use Rattle.base.specs.Refusals.{Told, IsDone, done, refused}
 use Rattle.base.proofs.Picks.{pick-yes}
 use Rattle.chip.specs.declared.ScanAnswer.the-variants as Scans
 use Rattle.chip.specs.Record.{bodyOf}
@@ -40,7 +40,7 @@ use Rattle.writer.proofs.Stretches.{samples-length}
 use Rattle.demands.specs.Events.{Event, sample, happened, samplesIn, ScansBelow, rowsAfter}
 use Rattle.demands.specs.Events as Events
 use Rattle.demands.specs.Demand3.{Asked}
-use Rattle.demands.specs.Calls.{Call, play, scan, eventsOf, blocksOf, Ran, over, played, scanned, IsDone, AllDone, AskedChain, AsTold, Demand3OfCalls, CallsRun}
+use Rattle.demands.specs.Calls.{Call, play, scan, eventsOf, blocksOf, Ran, over, played, scanned, AllDone, AskedChain, AsTold, Demand3OfCalls, CallsRun}
 use Rattle.demands.proofs.Writes.{Writes}
 use Rattle.demands.proofs.Going.{Going, rowsLeft, going-on}
 use Rattle.demands.proofs.Demand3 as Three

@@ -12,7 +12,7 @@ use mathlib.Core.List.{List, [], _∷_, _++_, map}
 use Prim.Native.Nat.{ℕ, _<_}
 use lib.Dec.{T}
 use lib.ListN.{length, take}
-use Rattle.base.specs.Refusals.{Told, done, refused}
+use Rattle.base.specs.Refusals.{IsDone}
 use Rattle.chip.specs.Record.{bodyOf}
 use Rattle.chip.specs.Edges.{dclk, load}
 use Rattle.chip.specs.History.{after}
@@ -61,11 +61,6 @@ pub data Ran (n : ℕ) : Chain → List Call → Chain → Type 0 where
       → handedScan r ≡ scannedOf n ch k bytes
       → Ran n (r .chain) calls ch′
       → Ran n ch (scan k bytes ∷ calls) ch′
-
--- what was told is an answer, and no refusal
-abbrev pub IsDone : {A : Type 0} → Told A → Type 0
-IsDone (done answer) = Unit {0}
-IsDone (refused number place) = ⊥
 
 -- no call was refused
 abbrev pub AllDone : {n : ℕ} {ch ch′ : Chain} {calls : List Call} → Ran n ch calls ch′ → Type 0

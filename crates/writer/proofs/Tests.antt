@@ -15,7 +15,7 @@ use lib.Dec.{T, eqb, leb, eqb→eq, leb→le}
 use lib.ListN.{length, getD, drop, drop-of-length-le}
 use lib.Seq.{drop-cons}
 use Rattle.base.specs.Pick.{pick}
-use Rattle.base.specs.Refusals.{Told, done, refused}
+use Rattle.base.specs.Refusals.{Told, IsDone, done, refused}
 use Rattle.base.proofs.Picks.{pick-yes, pick-no}
 use Rattle.word.specs.declared.Command.{Command}
 use Rattle.word.specs.declared.Decoded.{Decoded}
@@ -49,29 +49,26 @@ module _ (n place w : ℕ) {r : Decoded} (told : decodedTells r ≡ decodedOf w)
 
 -- ---- a list that passed
 
--- a telling that is no refusal
-abbrev isDone : Told (Unit {0}) → Type 0
-isDone (done u) = Unit {0}
-isDone (refused number place) = ⊥
+four-passed : (a b c : Bool) (t : Told (Unit {0})) → IsDone (pick a (pick b (pick c t (refused 5 0)) (refused 4 0)) (refused 3 0)) → T a × T b × T c × IsDone t
+four-passed true true true t p = (tt, tt, tt, p)
+four-passed true true false t p = absurd p
+four-passed true false c t p = absurd p
+four-passed false b c t p = absurd p
 
-three-passed : (a b c : Bool) (t : Told (Unit {0})) → isDone (pick a (pick b (pick c t (refused 5 0)) (refused 4 0)) (refused 3 0)) → T a × T b × T c
-three-passed true true true t p = (tt, tt, tt)
-three-passed true true false t p = absurd p
-three-passed true false c t p = absurd p
-three-passed false b c t p = absurd p
-
--- what a list that passed its tests has: 1 to 8 chips, whole rows, at most 64 of them, and so at most 512 words
+-- what a list that passed its tests has: 1 to 8 chips, whole rows, at most 64 of them, and so at most 512 words, each of which
+-- passed its own
 pub record Passed (n : ℕ) (ws : List ℕ) : Type 0 where
   pub low : 1 ≤ n
   pub high : n ≤ 8
   pub whole : length ws % n ≡ 0
   pub rows : length ws / n ≤ 64
   pub words : length ws ≤ 512
+  pub each : IsDone (wordsFrom n 0 ws)
 
 pub list-passed : (n : ℕ) (ws : List ℕ) → listTest n ws ≡ done tt → Passed n ws
 unfolding listTest
 list-passed n ws e =
-    let t = three-passed (chipCount n) (eqb (length ws % n) 0) (leb (length ws / n) 64) (wordsFrom n 0 ws) (subst isDone (sym e) tt) in
+    let t = four-passed (chipCount n) (eqb (length ws % n) 0) (leb (length ws / n) 64) (wordsFrom n 0 ws) (subst IsDone (sym e) tt) in
     let h = count-high n (t .0) in
     let z = eqb→eq (length ws % n) 0 (t .1) in
     let r = leb→le (length ws / n) 64 (t .2) in
@@ -81,4 +78,5 @@ list-passed n ws e =
       whole = z;
       rows = r;
       words = omega (arith, div-add-mod' (length ws) n, mul-le-mul-right n r);
+      each = t .3;
     }
