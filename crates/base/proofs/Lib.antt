@@ -6,3 +6,4 @@ pub mod Lists
 pub mod Refusals
 pub mod Unique
 pub mod Claims
+pub mod Lent

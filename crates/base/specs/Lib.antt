@@ -3,3 +3,4 @@ pub mod Bits
 pub mod Below
 pub mod Refusals
 pub mod Claims
+pub mod Lent

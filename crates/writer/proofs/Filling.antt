@@ -12,9 +12,11 @@ use Prim.Native.Nat.{ℕ, zero, suc, _+_, _*_, _≤_, _<_}
 use native.Mathlib.Nat.{le-of-suc-le-suc}
 use native.Mathlib.Numerals.{add-one}
 use native.Mathlib.Omega.{arith}
-use lib.ListN.{length, getD, set, take, drop, length-append, length-drop, length-set, drop-of-length-le}
-use lib.Seq.{length-take-le, take-all, drop-cons, take-suc-set, take-at, drop-at, drop-drop}
+use lib.ListN.{length, getD, set, take, drop, length-append, length-set, drop-of-length-le}
+use lib.Seq.{take-all, drop-cons, take-suc-set}
 use Rattle.base.specs.Bits.{cut}
+use Rattle.base.specs.Lent.{placed}
+use Rattle.base.proofs.Lent.{placed-length, placed-take, placed-drop}
 use Rattle.chain.specs.Shift.{wordBits, rowBits, clocking}
 use Rattle.chain.proofs.Shift.{row-length}
 use Rattle.writer.specs.Rows.{rowSamples}
@@ -114,16 +116,21 @@ abbrev pub put : List ℕ → ℕ → ℕ → List ℕ → List ℕ
 put out a k ys = take a out ++ (ys ++ drop k (drop a out))
 
 module _ (out : List ℕ) (a k : ℕ) (ys : List ℕ) (fits : a + k ≤ length out) (whole : length ys ≡ k) where
-  front : length (take a out ++ ys) ≡ a + k
-  front = length-append (take a out) ys ∙ ap₂ (λ n m. n + m) (length-take-le a out (omega arith)) whole
+  -- it is the piece put from a on
+  put-is : put out a k ys ≡ placed a ys out
+  put-is = ap (λ n. take a out ++ (ys ++ drop n (drop a out))) (sym whole)
+
+  within : a + length ys ≤ length out
+  within = omega arith
+
+  end : a + k ≡ a + length ys
+  end = omega arith
 
   pub put-length : length (put out a k ys) ≡ length out
-  put-length =
-      ap length (sym (append-assoc (take a out) ys (drop k (drop a out))))
-      ∙ omega (arith, length-append (take a out ++ ys) (drop k (drop a out)), front, length-drop k (drop a out), length-drop a out)
+  put-length = ap length put-is ∙ placed-length out a ys within
 
   pub put-take : take (a + k) (put out a k ys) ≡ take a out ++ ys
-  put-take = rw (← append-assoc) (take-at (take a out ++ ys) (drop k (drop a out)) (a + k) front)
+  put-take = ap₂ take end put-is ∙ placed-take out a ys within
 
   pub put-drop : drop (a + k) (put out a k ys) ≡ drop (a + k) out
-  put-drop = rw (← append-assoc) (drop-at (take a out ++ ys) (drop k (drop a out)) (a + k) front ∙ drop-drop k a out)
+  put-drop = ap₂ drop end put-is ∙ placed-drop out a ys within ∙ ap (λ n. drop n out) (sym end)

@@ -41,10 +41,6 @@ written n ws = samplesOf (rowsOf n ws)
 abbrev pub width : ℕ → ℕ
 width n = 24 * n + 2
 
--- samples at the front of a buffer; the bytes past them keep their contents
-abbrev pub laid : List ℕ → List ℕ → List ℕ
-laid samples out = samples ++ drop (length samples) out
-
 -- ---- which lists are accepted
 
 -- a system word with KEYB 1

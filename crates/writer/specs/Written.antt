@@ -5,11 +5,12 @@ use Prim.Native.Nat.{ℕ, _*_, _/_}
 use mathlib.Core.List.{List}
 use lib.Dec.{leb}
 use lib.ListN.{length}
+use Rattle.base.specs.Lent.{laid}
 use Rattle.base.specs.Pick.{pick}
 use Rattle.base.specs.Refusals.{Told, done, refused, refusedBy}
 use Rattle.writer.specs.declared.Written.{Written}
 use Rattle.writer.specs.declared.Written.the-variants.{Samples, Refused}
-use Rattle.writer.specs.Rows.{width, written, laid, listTest}
+use Rattle.writer.specs.Rows.{width, written, listTest}
 
 -- what the answer tells
 abbrev pub writtenTells : Written → Told ℕ

@@ -6,6 +6,7 @@ use word::Decoded;
 ghost use mathlib.Core.Path.{_≡_};
 ghost use Prim.Native.Nat.{_+_, _*_, _/_, _≤_, _<_};
 ghost use lib.ListN.{length};
+ghost use Rattle.base.specs.Lent.{laid};
 ghost use Rattle.base.specs.Refusals.{verdictTells};
 ghost use Rattle.chain.specs.Shift.{wordBits, clocking};
 ghost use Rattle.writer.specs.Rows as R;
@@ -137,7 +138,7 @@ fn write_rows(n: usize, words: &[u16], out: &mut [u8]) -> usize
     requires { ⌜ length (now words) ≤ 512 ⌝ }
     requires { ⌜ R.width n * (length (now words) / n) ≤ length (now out) ⌝ }
     ensures { λ r. ⌜ r ≡ R.width n * (length (now (words .entry)) / n) ⌝ }
-    ensures { λ _. ⌜ now (out .exit) ≡ R.laid (R.written n (now (words .entry))) (now (out .entry)) ⌝ }
+    ensures { λ _. ⌜ now (out .exit) ≡ laid (R.written n (now (words .entry))) (now (out .entry)) ⌝ }
 {
     let width = 24 * n + 2;
     let rows = words.len() / n;

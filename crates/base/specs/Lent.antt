@@ -1,0 +1,13 @@
+-- A piece put into a lent buffer, which keeps every other byte.
+-- Assumes nothing.
+use Prim.Native.Nat.{ℕ}
+use mathlib.Core.List.{List, _++_}
+use lib.ListN.{length, take, drop}
+
+-- a piece at the front of a buffer; the bytes past it keep their contents
+abbrev pub laid : List ℕ → List ℕ → List ℕ
+laid piece out = piece ++ drop (length piece) out
+
+-- a piece from a place on; the bytes before and past it keep their contents
+abbrev pub placed : ℕ → List ℕ → List ℕ → List ℕ
+placed at piece out = take at out ++ laid piece (drop at out)
