@@ -1,8 +1,10 @@
 -- Pieces put into a lent buffer, one after another. A filling loop's invariant is `Fills`: what is left to put, put where the loop
 -- stands, makes the whole.
 --     placed-length, placed-take, placed-drop     the length, what is done with the piece, and what comes after it
+--     laid-counts                                 a piece's length counts bytes at the front
 --     placed-none, placed-again                   nothing put, and two pieces one after another
 --     fills-start, fills-more, fills-over         a loop's start, one more piece, and its end
+--     fills-room                                  the next piece fits where the whole does
 -- Assumes nothing.
 use mathlib.Core.Path.{_≡_, refl, ap, ap₂, sym, _∙_}
 use mathlib.Core.List.{List, [], _∷_, _++_, append-assoc}
@@ -10,7 +12,7 @@ use Prim.Native.Nat.{ℕ, _+_, _≤_}
 use native.Mathlib.Omega.{arith}
 use lib.ListN.{length, take, drop, length-append, length-drop, take-append-drop}
 use lib.Seq.{length-take-le, take-at, drop-at, drop-drop}
-use Rattle.base.specs.Lent.{laid, placed}
+use Rattle.base.specs.Lent.{laid, placed, Counts}
 
 -- ---- one piece
 
@@ -31,6 +33,11 @@ module _ (out : List ℕ) (at : ℕ) (piece : List ℕ) (fits : at + length piec
   placed-drop =
       rw (← append-assoc)
       (drop-at (take at out ++ piece) (drop (length piece) (drop at out)) (at + length piece) front ∙ drop-drop (length piece) at out)
+
+pub laid-counts : (out piece : List ℕ) → length piece ≤ length out → Counts (length piece) (laid piece out)
+laid-counts out piece fits =
+    let whole : length piece ≤ length (laid piece out) = omega (arith, length-append piece (drop (length piece) out)) in
+    (whole, sym (length-take-le (length piece) (laid piece out) whole))
 
 -- ---- pieces one after another
 
@@ -73,6 +80,12 @@ fills-more {at₀} {whole} {out₀} {at} piece rest {out} f room {at′} {out′
       count = omega (arith, f .count);
       size = ap length o ∙ placed-length out at piece (omega arith) ∙ f .size;
     }
+
+pub fills-room : {at₀ : ℕ} {whole out₀ : List ℕ} {at : ℕ} (piece rest : List ℕ) {out : List ℕ}
+    → Fills at₀ whole out₀ at (piece ++ rest) out
+    → at₀ + length whole ≤ length out₀
+    → at + length piece ≤ length out
+fills-room piece rest f room = omega (arith, length-append piece rest, f .count, f .size)
 
 pub fills-over : {at₀ : ℕ} {whole out₀ : List ℕ} {at : ℕ} {out : List ℕ} → Fills at₀ whole out₀ at [] out
     → (at ≡ at₀ + length whole) × (out ≡ placed at₀ whole out₀)

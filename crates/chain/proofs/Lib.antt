@@ -5,3 +5,4 @@ pub mod Laws
 pub mod Shift
 pub mod Clocks
 pub mod Unique
+pub mod Passed

@@ -5,7 +5,6 @@
 --     scan-body          a scan is a step of the chip that it names, and of no other
 --     scan-keypad        it leaves the keypad as it is on every chip
 --     scan-held          and the registers and latches
---     scan-valid         and valid records valid
 --     any-lines          no clock edge changes anything but line parts, on any CH452
 -- Assumes nothing.
 use mathlib.Core.Path.{_≡_, refl, ap, sym, subst, _∙_}
@@ -30,7 +29,6 @@ use Rattle.chip.specs.Edges.{din, loadRises, clocked, withLine, loaded, stepped
 use Rattle.chip.specs.Scans.{result, scanned}
 use Rattle.chip.specs.History.{Step, after}
 use Rattle.chip.proofs.Quiet.{stepped-load, body-word, loaded-register, keyb-scanned, line-scanned}
-use Rattle.chip.proofs.Valid.{scanned-valid}
 use Rattle.chain.specs.declared.Chain.{Chain}
 use Rattle.chain.specs.Chain.{allValid, steppedRow, steppedChain}
 use Rattle.chain.specs.Shift.{KeypadLast, LinesOnly, heldOf, held}
@@ -147,17 +145,6 @@ held-take zero cs = refl
 held-take (suc n) [] = refl
 held-take (suc n) (c ∷ cs) = ap (λ hs. heldOf c ∷ hs) (held-take n cs)
 
--- a record that is valid if the one before it was
-valid-set : (n : ℕ) (cs : List Chip) (j : ℕ) (x d : Chip) → (T (valid (getD cs j d)) → T (valid x)) → T (allValid n cs) → T (allValid n (set cs j x))
-unfolding allValid
-valid-set zero cs j x d f v = v
-valid-set (suc n) [] j x d f v = v
-valid-set (suc n) (c ∷ cs) zero x d f v =
-    and-both (valid x) (allValid n cs) (f (and-left (valid c) (allValid n cs) v)) (and-right (valid c) (allValid n cs) v)
-valid-set (suc n) (c ∷ cs) (suc j) x d f v =
-    and-both (valid c) (allValid n (set cs j x)) (and-left (valid c) (allValid n cs) v)
-    (valid-set n cs j x d f (and-right (valid c) (allValid n cs) v))
-
 module _ (n j : ℕ) (bytes : List ℕ) (ch : Chain) where
   abbrev after-scan : Chain
   after-scan = withChip j (scanned bytes (chipAt j ch)) ch
@@ -187,9 +174,6 @@ module _ (n j : ℕ) (bytes : List ℕ) (ch : Chain) where
       (map-set-same heldOf (ch .chips) j (scanned bytes (chipAt j ch)) resetChip
       (ap (λ l. record { register = l .register; latch = l .latch }) (line-scanned (result bytes) (chipAt j ch))))
       ∙ sym (held-take n (ch .chips))
-
-  pub scan-valid : T (allValid n (ch .chips)) → T (allValid n (after-scan .chips))
-  scan-valid = valid-set n (ch .chips) j (scanned bytes (chipAt j ch)) resetChip (scanned-valid bytes (chipAt j ch))
 
 -- ---- the premise that is trivial today
 

@@ -5,23 +5,19 @@
 --     play-happens     so `play` leaves what its samples as events leave
 --     scan-happens     and `scan` what its scan as an event leaves
 -- Assumes nothing.
-use mathlib.Core.Path.{_≡_, refl, ap, ap₂, _∙_}
-use mathlib.Core.Bool.{Bool, true, false}
+use mathlib.Core.Path.{_≡_, refl, ap, _∙_}
 use mathlib.Core.List.{List, [], _∷_, _++_, map}
 use Prim.Native.Nat.{ℕ, zero, suc, _<_}
-use borrow.Author.Tests.{lt-ltb}
 use lib.Dec.{T}
 use lib.ListN.{replicate}
-use Rattle.base.specs.Pick.{pick}
-use Rattle.base.specs.Refusals.{Told, done, refused, handsBack}
-use Rattle.base.proofs.Tests.{and-both}
-use Rattle.chip.specs.Record.{valid, resetChip}
+use Rattle.base.specs.Refusals.{done}
+use Rattle.chip.specs.Record.{resetChip}
 use Rattle.chip.specs.Scans.{recorded}
-use Rattle.chip.proofs.Valid.{reset-valid}
 use Rattle.chain.specs.declared.Chain.{Chain}
-use Rattle.chain.specs.Chain.{most, chipCount, allValid, validChain, testedOf, checkedFrom, steppedChain, played}
+use Rattle.chain.specs.Chain.{most, chipCount, testedOf, checkedFrom, steppedChain, played}
 use Rattle.chain.specs.Shift.{KeypadLast}
-use Rattle.chain.specs.Entries.{after, chipAt, startChain, playedOf, scannedOf}
+use Rattle.chain.specs.Entries.{chipAt, startChain, playedOf, scannedOf}
+use Rattle.chain.proofs.Passed.{tests-pass, start-valid, play-done, scan-done}
 use Rattle.writer.specs.Rows.{rowsOf, written, listTest}
 use Rattle.demands.specs.Events.{Event, sample, scan, happened, samplesIn}
 use Rattle.demands.specs.Demand3.{Asked}
@@ -30,12 +26,6 @@ use Rattle.demands.proofs.Going.{Going, rowsLeft}
 use Rattle.demands.proofs.Corollaries.{in-between}
 
 -- ---- the start
-
-resets-valid : (n many : ℕ) → T (allValid n (replicate many resetChip))
-unfolding allValid
-resets-valid zero many = tt
-resets-valid (suc n) zero = tt
-resets-valid (suc n) (suc many) = and-both (valid resetChip) (allValid n (replicate many resetChip)) reset-valid (resets-valid n many)
 
 resets-off : (n many : ℕ) → KeypadLast n (replicate many resetChip)
 resets-off zero many = tt
@@ -48,7 +38,7 @@ start-asked n ws count accepted =
     record {
       count = count;
       places = refl;
-      valid = and-both (allValid n (replicate most resetChip)) true (resets-valid n most) tt;
+      valid = start-valid n;
       lines = any-lines (replicate most resetChip);
       dclkHigh = refl;
       loadHigh = refl;
@@ -58,15 +48,8 @@ start-asked n ws count accepted =
 
 -- ---- the tests that come first
 
--- two tests passed are no refusal
-both-pass : (a b : Bool) → T a → T b → _≡_ {A = Told (Unit {0})} (pick a (pick b (done tt) (refused 12 0)) (refused 3 0)) (done tt)
-both-pass true true t u = refl
-both-pass true false t u = absurd u
-both-pass false b t u = absurd t
-
 pub going-tested : (n : ℕ) (ch : Chain) (rows : List (List ℕ)) (ss : List ℕ) → T (chipCount n) → Going n most ch rows ss → testedOf n ch ≡ done tt
-unfolding testedOf
-going-tested n ch rows ss count g = both-pass (chipCount n) (validChain n ch) count (g .standing .valid)
+going-tested n ch rows ss count g = tests-pass n ch count (g .standing .valid)
 
 pub never-refused : (n : ℕ) (ch : Chain) (ws : List ℕ) → Asked n ch ws → (es : List Event) (rest : List ℕ) → samplesIn es ++ rest ≡ written n ws
     → testedOf n (happened n es ch) ≡ done tt
@@ -82,14 +65,8 @@ played-happens n (s ∷ ss) ch = played-happens n ss (steppedChain n s ch)
 
 pub play-happens : (n : ℕ) (ch : Chain) (ss : List ℕ) → testedOf n ch ≡ done tt → checkedFrom 0 ss ≡ done tt
     → playedOf n ch ss ≡ record { state = happened n (map sample ss) ch; told = done tt }
-unfolding playedOf
-play-happens n ch ss e f =
-    ap₂ (λ t u. after t ch (after u ch (record { state = played n ss ch; told = done tt }))) e f
-    ∙ ap (λ x. record { state = x; told = done tt }) (played-happens n ss ch)
+play-happens n ch ss e f = play-done n ch e ss f ∙ ap (λ x. record { state = x; told = done tt }) (played-happens n ss ch)
 
 pub scan-happens : (n : ℕ) (ch : Chain) (k : ℕ) (bytes : List ℕ) → testedOf n ch ≡ done tt → k < n
     → scannedOf n ch k bytes ≡ record { state = happened n (scan k bytes ∷ []) ch; told = done (recorded bytes (chipAt k ch)) }
-unfolding scannedOf
-scan-happens n ch k bytes e h =
-    ap₂ (λ t b. after t ch (pick b (record { state = happened n (scan k bytes ∷ []) ch; told = done (recorded bytes (chipAt k ch)) }) (handsBack ch 2 0)))
-    e (lt-ltb k n h)
+scan-happens n ch k bytes e h = scan-done n ch e k bytes h

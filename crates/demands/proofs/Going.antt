@@ -26,12 +26,13 @@ use Rattle.chain.specs.Chain.{allValid, validChain, steppedChain}
 use Rattle.chain.specs.Shift.{KeypadLast, LinesOnly, held}
 use Rattle.chain.specs.Entries.{chipAt, withChip}
 use Rattle.chain.proofs.Laws.{row-valid}
+use Rattle.chain.proofs.Passed.{scan-valid}
 use Rattle.chain.proofs.Rest.{row-length}
 use Rattle.chain.proofs.Clocks.{held-row}
 use Rattle.demands.specs.Events.{Event, sample, scan, happened, samplesIn, ScansBelow, toldAt, rowsAfter, scanAt, stepsFor}
 use Rattle.demands.proofs.Writes.{AtSample, Writes}
 use Rattle.demands.proofs.Accepted.{Fits}
-use Rattle.demands.proofs.Chips.{sample-body, sample-keypad, scan-body, scan-keypad, scan-held, scan-valid, any-lines}
+use Rattle.demands.proofs.Chips.{sample-body, sample-keypad, scan-body, scan-keypad, scan-held, any-lines}
 
 -- a chain of so many records, valid, the keypad on at most at the end
 pub record Standing (n places : ℕ) (ch : Chain) : Type 0 where
@@ -96,10 +97,7 @@ module _ (n places : ℕ) (fits : n ≤ places) where
             record {
               size = length-set (ch .chips) j (scanned bytes (chipAt j ch)) ∙ st .size;
               lines = any-lines (withChip j (scanned bytes (chipAt j ch)) ch .chips);
-              valid =
-                  and-both (allValid n (withChip j (scanned bytes (chipAt j ch)) ch .chips)) (leb (ch .levels) 7)
-                  (scan-valid n j bytes ch (and-left (allValid n (ch .chips)) (leb (ch .levels) 7) (st .valid)))
-                  (and-right (allValid n (ch .chips)) (leb (ch .levels) 7) (st .valid));
+              valid = scan-valid n j bytes ch (st .valid);
               keypad = scan-keypad n j bytes ch (st .keypad);
             };
         fit = g .fit;

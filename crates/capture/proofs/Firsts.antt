@@ -1,0 +1,205 @@
+-- The first line of a text: 00 01 N, or refusal 10.
+--     first-cut                          a text with no line that was ended gives no chips
+--     other-count, by-three              a frame that holds other than three bytes, and one that holds three
+--     long-out, none-out                 a text too long, and one whose first line gives no chips
+--     replays-so, piece-room             the output put at the front is what is promised, and has room
+--     replays-counts                     the answer counts bytes at the array's front
+--     begun-more, begun-tested           chips started: the first line was ended, the chain passes the tests
+--     begun-out                          and the output is that of the lines after the first
+-- Assumes nothing.
+use mathlib.Core.Path.{_≡_, refl, ap, ap₂, sym, subst, _∙_}
+use mathlib.Core.Bool.{Bool, true, false, _&&_}
+use mathlib.Core.List.{List, [], _∷_}
+use Prim.Native.Nat.{ℕ, zero, suc, _+_, _≤_, _<_}
+use native.Mathlib.Omega.{arith}
+use borrow.Author.Tests.{le-leb, lt-leb}
+use lib.Dec.{T, eqb}
+use lib.ListN.{length, getD, take, drop}
+use Rattle.base.specs.Lent.{laid, Counts}
+use Rattle.base.specs.Pick.{pick}
+use Rattle.base.specs.Refusals.{Told, done, refused}
+use Rattle.base.proofs.Lent.{laid-counts}
+use Rattle.base.proofs.Picks.{pick-yes, pick-no}
+use Rattle.base.proofs.Tests.{by-order}
+use Rattle.chain.specs.Chain.{chipCount, testedOf}
+use Rattle.chain.specs.declared.Handed.{Handed}
+use Rattle.chain.specs.Entries.{handed, startChain, startedOf}
+use Rattle.chain.proofs.Passed.{start-tested, start-done}
+use Rattle.chain.proofs.Tested.{count-low}
+use Rattle.capture.specs.declared.Report.{Report}
+use Rattle.capture.specs.declared.read.Frame.{Frame}
+use Rattle.capture.specs.Lines.{Line, ended, cutOff, linesOf, bytesIn}
+use Rattle.capture.specs.Frames.{firstOf}
+use Rattle.capture.specs.Parts.{lineLength, heldIn, heldBy, Holds, firstIn, chipsIn, Puts}
+use Rattle.capture.specs.Reports.{refusalLine}
+use Rattle.capture.specs.Replay.{linesOut, afterFirst, allOut, outputOf, Replays}
+use Rattle.capture.proofs.Lines.{lines-next, lines-last}
+use Rattle.capture.proofs.Walks.{held-same}
+
+-- ---- where the first line ends
+
+pub first-cut : (text : List ℕ) → length text ≤ lineLength text → chipsIn (firstIn (linesOf text)) ≡ 0
+unfolding linesOf firstOf
+first-cut [] h = refl
+first-cut (ch ∷ text) h = ap (λ ls. chipsIn (firstIn ls)) (lines-last (ch ∷ text) (omega arith) h)
+
+first-next : (text : List ℕ) → lineLength text < length text
+    → firstIn (linesOf text) ≡ firstOf (bytesIn (ended (take (lineLength text) text)))
+first-next text h = ap firstIn (lines-next text h)
+
+-- ---- its bytes
+
+first-count : (bytes : List ℕ) → (length bytes ≡ 3 → ⊥) → firstOf bytes ≡ refused 10 0
+unfolding firstOf
+first-count [] ne = refl
+first-count (a ∷ []) ne = refl
+first-count (a ∷ b ∷ []) ne = refl
+first-count (a ∷ b ∷ n ∷ []) ne = absurd (ne refl)
+first-count (a ∷ b ∷ n ∷ c ∷ more) ne = refl
+
+first-held : (chars : List ℕ) → firstOf (heldIn chars) ≡ firstOf (bytesIn (ended chars))
+first-held =
+    held-same firstOf (λ bytes h. first-count bytes (λ e. absurd (omega arith)) ∙ sym (first-count [] (λ e. absurd (omega arith))))
+
+first-three : (a b n : ℕ) → firstOf (a ∷ b ∷ n ∷ []) ≡ pick (eqb a 0x00 && eqb b 0x01 && chipCount n) (done n) (refused 10 0)
+unfolding firstOf
+first-three a b n = refl
+
+three-held : (fb : List ℕ) → 3 ≤ length fb → take 3 fb ≡ getD fb 0 0 ∷ getD fb 1 0 ∷ getD fb 2 0 ∷ []
+three-held [] h = absurd (omega arith)
+three-held (a ∷ []) h = absurd (omega arith)
+three-held (a ∷ b ∷ []) h = absurd (omega arith)
+three-held (a ∷ b ∷ c ∷ more) h = refl
+
+-- ---- by what its frame holds
+
+module _ (text : List ℕ) (end : ℕ) (here : end ≡ lineLength text) (more : end < length text) (f : Frame)
+    (holds : Holds f (heldIn (take end text))) (size : length (f .bytes) ≡ 33) where
+  -- the first line says what the frame says
+  frame-says : firstIn (linesOf text) ≡ firstOf (heldBy f)
+  frame-says =
+      first-next text (omega arith) ∙ sym (first-held (take (lineLength text) text))
+      ∙ ap firstOf (ap (λ m. heldIn (take m text)) (sym here) ∙ sym (holds .front))
+
+  pub other-count : (f .count ≡ 3 → ⊥) → 0 ≡ chipsIn (firstIn (linesOf text))
+  other-count ne =
+      sym (ap chipsIn (frame-says ∙ first-count (heldBy f) (λ e. ne (holds .count ∙ ap length (sym (holds .front)) ∙ e))))
+
+  pub by-three : f .count ≡ 3
+      → chipsIn (firstIn (linesOf text))
+      ≡ chipsIn
+      (pick (eqb (getD (f .bytes) 0 0) 0x00 && eqb (getD (f .bytes) 1 0) 0x01 && chipCount (getD (f .bytes) 2 0)) (done (getD (f .bytes) 2 0)) (refused 10 0))
+  by-three e =
+      ap chipsIn
+      (frame-says
+      ∙ ap firstOf (ap (λ m. take m (f .bytes)) e ∙ three-held (f .bytes) (omega arith))
+      ∙ first-three (getD (f .bytes) 0 0) (getD (f .bytes) 1 0) (getD (f .bytes) 2 0))
+
+-- ---- what follows from it
+
+-- a number of chips that is one, or refusal 10
+Counted : Told ℕ → Type 0
+Counted (done n) = T (chipCount n)
+Counted (refused number place) = number ≡ 10
+
+all-three : (a b c : Bool) (n : ℕ) → (T c → T (chipCount n)) → Counted (pick (a && b && c) (done n) (refused 10 0))
+unfolding Counted
+all-three true true true n f = f tt
+all-three true true false n f = refl
+all-three true false c n f = refl
+all-three false b c n f = refl
+
+first-counted : (bytes : List ℕ) → Counted (firstOf bytes)
+unfolding firstOf Counted
+first-counted [] = refl
+first-counted (a ∷ []) = refl
+first-counted (a ∷ b ∷ []) = refl
+first-counted (a ∷ b ∷ n ∷ []) = all-three (eqb a 0x00) (eqb b 0x01) (chipCount n) n (λ t. t)
+first-counted (a ∷ b ∷ n ∷ c ∷ more) = refl
+
+none-after : (what : Report) (t : Told ℕ) (ls : List Line) → Counted t → chipsIn t ≡ 0 → afterFirst what t ls ≡ refusalLine 10 1
+unfolding Counted
+none-after what (done n) ls c e = let h = count-low n c in absurd (omega arith)
+none-after what (refused number place) ls c e = ap (λ m. refusalLine m 1) c
+
+none-refused : (what : Report) (ls : List Line) → chipsIn (firstIn ls) ≡ 0 → allOut what ls ≡ refusalLine 10 1
+none-refused what [] e = refl
+none-refused what (l ∷ ls) e = none-after what (firstOf (bytesIn l)) ls (first-counted (bytesIn l)) e
+
+some-after : (what : Report) (t : Told ℕ) (ls : List Line) → Counted t → (chipsIn t ≡ 0 → ⊥)
+    → (T (chipCount (chipsIn t))) × (afterFirst what t ls ≡ linesOut what (chipsIn t) 2 startChain ls)
+unfolding Counted
+some-after what (done n) ls c e = (c, refl)
+some-after what (refused number place) ls c e = absurd (e refl)
+
+some-goes-on : (what : Report) (text : List ℕ) → (chipsIn (firstIn (linesOf text)) ≡ 0 → ⊥)
+    → (lineLength text < length text) × (T (chipCount (chipsIn (firstIn (linesOf text)))))
+    × (allOut what (linesOf text) ≡ linesOut what (chipsIn (firstIn (linesOf text))) 2 startChain (linesOf (drop (lineLength text + 1) text)))
+some-goes-on what text ne =
+    by-order (length text) (lineLength text) (λ h. absurd (ne (first-cut text h)))
+    (λ h.
+    let e = lines-next text h in
+    let bytes = bytesIn (ended (take (lineLength text) text)) in
+    let rest = linesOf (drop (lineLength text + 1) text) in
+    let s = some-after what (firstOf bytes) rest (first-counted bytes) (λ z. ne (ap (λ ls. chipsIn (firstIn ls)) e ∙ z)) in (
+      h,
+      subst (λ ls. T (chipCount (chipsIn (firstIn ls)))) (sym e) (s .0),
+      ap (allOut what) e ∙ s .1 ∙ ap (λ ls. linesOut what (chipsIn (firstIn ls)) 2 startChain rest) (sym e),
+    ))
+
+-- ---- the whole
+
+pub long-out : (what : Report) (text : List ℕ) → 65536 < length text → outputOf what text ≡ refusalLine 11 0
+unfolding outputOf
+long-out what text h = pick-no _ _ (lt-leb (length text) 65536 h)
+
+pub none-out : (what : Report) (text : List ℕ) → length text ≤ 65536 → chipsIn (firstIn (linesOf text)) ≡ 0 → outputOf what text ≡ refusalLine 10 1
+unfolding outputOf
+none-out what text h e = pick-yes _ _ (le-leb (length text) 65536 h) ∙ none-refused what (linesOf text) e
+
+some-out : (what : Report) (text : List ℕ) → length text ≤ 65536 → (chipsIn (firstIn (linesOf text)) ≡ 0 → ⊥)
+    → outputOf what text ≡ linesOut what (chipsIn (firstIn (linesOf text))) 2 startChain (linesOf (drop (lineLength text + 1) text))
+unfolding outputOf
+some-out what text h ne = pick-yes _ _ (le-leb (length text) 65536 h) ∙ some-goes-on what text ne .2
+
+-- the output put at the front is what is promised
+pub replays-so : {what : Report} {text : List ℕ} (piece : List ℕ) {out : List ℕ} {r : ℕ} {out′ : List ℕ} → outputOf what text ≡ piece
+    → Puts piece 0 out r out′
+    → Replays what text out r out′
+replays-so piece {out} {r} e put =
+    let count : r ≡ length piece = omega (arith, put .answer) in
+    record { answer = count ∙ ap length (sym e); bytes = put .bytes ∙ ap (λ p. laid p out) (sym e) }
+
+-- and has room
+pub piece-room : {whole piece : List ℕ} (room : ℕ) → whole ≡ piece → length whole ≤ room → length piece ≤ room
+piece-room room = subst (λ p. length p ≤ room)
+
+-- the answer counts bytes at the array's front
+pub replays-counts : {what : Report} {text out : List ℕ} {r : ℕ} {out′ : List ℕ} → length (outputOf what text) ≤ length out → Replays what text out r out′ → Counts r out′
+replays-counts {what} {text} {out} {r} {out′} fits p =
+    subst (λ n. Counts n out′) (sym (p .answer)) (subst (λ xs. Counts (length (outputOf what text)) xs) (sym (p .bytes)) (laid-counts out (outputOf what text) fits))
+
+-- ---- a chain started, and the lines after the first
+
+module _ (what : Report) (text : List ℕ) (end n : ℕ) (h : Handed) (fits : length text ≤ 65536) (here : end ≡ lineLength text)
+    (chips : n ≡ chipsIn (firstIn (linesOf text))) (some : n ≡ 0 → ⊥) (start : handed h ≡ startedOf n) where
+  ne : chipsIn (firstIn (linesOf text)) ≡ 0 → ⊥
+  ne z = some (chips ∙ z)
+
+  count : T (chipCount n)
+  count = subst (λ m. T (chipCount m)) (sym chips) (some-goes-on what text ne .1)
+
+  started : h .chain ≡ startChain
+  started = ap (λ o. o .state) (start ∙ start-done n count)
+
+  pub begun-more : end < length text
+  begun-more = omega (arith, some-goes-on what text ne .0)
+
+  pub begun-tested : testedOf n (h .chain) ≡ done tt
+  begun-tested = ap (testedOf n) started ∙ start-tested n count
+
+  pub begun-out : outputOf what text ≡ linesOut what n 2 (h .chain) (linesOf (drop (end + 1) text))
+  begun-out =
+      some-out what text fits ne
+      ∙ ap₂ (λ m c. linesOut what m 2 c (linesOf (drop (lineLength text + 1) text))) (sym chips) (sym started)
+      ∙ ap (λ m. linesOut what n 2 (h .chain) (linesOf (drop (m + 1) text))) (sym here)

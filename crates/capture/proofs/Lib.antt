@@ -1,0 +1,11 @@
+pub mod Lines
+pub mod Puts
+pub mod Rises
+pub mod Reported
+pub mod Samples
+pub mod Forms
+pub mod Walks
+pub mod Firsts
+pub mod Room
+pub mod Law
+pub mod Unique

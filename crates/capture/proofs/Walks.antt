@@ -1,0 +1,251 @@
+-- Lines one after another. `Walks` is the loop's invariant: what is left of the text writes what is left of the output.
+--     held-same                          what a frame holds serves as well as the line's bytes
+--     taken-tested                       a chain that passes the tests still does after a line
+--     walks-start, walks-over            the loop's start, and the text's end
+--     walks-cut                          a last line without 0AH
+--     walks-form                         what a frame holds is of the line's form
+--     walks-room, walks-refusal-room     there is room for what a line writes, and for its refusal
+--     walks-refused, walks-more          a line that is refused, and one more line
+-- Assumes nothing.
+use mathlib.Core.Path.{_≡_, refl, ap, ap₂, sym, subst, _∙_}
+use mathlib.Core.Bool.{Bool, true, false, _&&_, true≢false}
+use mathlib.Core.List.{List, [], _∷_, _++_}
+use Prim.Native.Nat.{ℕ, zero, suc, _+_, _*_, _-_, _/_, _%_, _≤_, _<_}
+use native.Mathlib.Numerals.{add-one}
+use native.Mathlib.Omega.{arith}
+use borrow.Author.Tests.{le-leb, lt-leb, eqb-true}
+use lib.Dec.{eqb, leb, ltb}
+use lib.ListN.{length, take, drop, length-append, length-drop, drop-of-length-le}
+use lib.Seq.{drop-drop}
+use Rattle.base.specs.Lent.{placed}
+use Rattle.base.specs.Pick.{pick}
+use Rattle.base.specs.Refusals.{Told, done, refused, handsBack, Outcome}
+use Rattle.base.proofs.Lent.{Fills, fills-start, fills-more, fills-over, fills-room, placed-none}
+use Rattle.base.proofs.Picks.{pick-yes, pick-no, pick-cases}
+use Rattle.base.proofs.Tests.{by-order}
+use Rattle.chain.specs.declared.Chain.{Chain}
+use Rattle.chain.specs.Chain.{testedOf, checkedFrom}
+use Rattle.chain.proofs.Laws.{checked-below}
+use Rattle.chain.proofs.Passed.{played-tested, scanned-tested}
+use Rattle.capture.specs.declared.Report.{Report}
+use Rattle.capture.specs.declared.read.Frame.{Frame}
+use Rattle.capture.specs.declared.walk.Took.{Took}
+use Rattle.capture.specs.Lines.{Line, ended, cutOff, linesOf, bytesIn, bytesOf, allDigits}
+use Rattle.capture.specs.Frames.{Form, samples, scan, other, samplesBy, samplesForm, scanForm, formOf}
+use Rattle.capture.specs.Parts.{lineLength, heldIn, heldBy, Holds, Puts, Takes, outOf, isTaken}
+use Rattle.capture.specs.Reports.{refusalLine}
+use Rattle.capture.specs.Replay.{taken, andThen, linesOut}
+use Rattle.capture.proofs.Lines.{bytes-half, lines-next, lines-last}
+use Rattle.capture.proofs.Puts.{refusal-length}
+use Rattle.capture.proofs.Forms.{form-long}
+
+-- ---- what a frame holds
+
+-- no bytes are of no form
+none-other : (n : ℕ) → other ≡ formOf n []
+unfolding formOf
+none-other n = refl
+
+-- a reading of bytes that is the same for more than 33 as for none
+pub held-same {ℓ} : {A : Type ℓ} (f : List ℕ → A) → ((bytes : List ℕ) → 33 < length bytes → f bytes ≡ f []) → (chars : List ℕ)
+    → f (heldIn chars) ≡ f (bytesIn (ended chars))
+held-same f long chars =
+    by-order (length chars) 66 (λ h. ap f (pick-yes _ _ (le-leb (length chars) 66 h)))
+    (λ h. ap f (pick-no _ _ (lt-leb (length chars) 66 h)) ∙ sym (whole h (allDigits chars) (eqb (length chars % 2) 0) refl))
+  where
+    whole : 66 < length chars → (a b : Bool) → eqb (length chars % 2) 0 ≡ b → f (pick (a && b) (bytesOf chars) []) ≡ f []
+    whole h true true e =
+        let even = eqb-true (length chars % 2) 0 e in
+        long (bytesOf chars) (omega (arith, bytes-half chars))
+    whole h true false e = refl
+    whole h false b e = refl
+
+-- ---- the chain after a line
+
+-- a form's samples passed their test
+Fine : Form → Type 0
+Fine (samples ss) = checkedFrom 0 ss ≡ done tt
+Fine (scan k bytes) = Unit {0}
+Fine other = Unit {0}
+
+samples-fine : (ss : List ℕ) (t : Told (Unit {0})) → checkedFrom 0 ss ≡ t → Fine (samplesBy t ss)
+unfolding Fine
+samples-fine ss (done u) e = e
+samples-fine ss (refused number place) e = tt
+
+scan-fine : (n : ℕ) (rest : List ℕ) → Fine (scanForm n rest)
+unfolding Fine
+scan-fine n [] = tt
+scan-fine n (k ∷ bytes) = pick-cases Fine (ltb k n && eqb (length bytes) 8) (λ _. tt) (λ _. tt)
+
+form-fine : (n : ℕ) (bytes : List ℕ) → Fine (formOf n bytes)
+unfolding formOf Fine
+form-fine n [] = tt
+form-fine n (kind ∷ rest) =
+    pick-cases Fine (eqb kind 0x01)
+    (λ _. pick-cases Fine (leb 1 (length rest) && leb (length rest) 32) (λ _. samples-fine rest (checkedFrom 0 rest) refl) (λ _. tt))
+    (λ _. pick-cases Fine (eqb kind 0x02) (λ _. scan-fine n rest) (λ _. tt))
+
+fine-tested : (what : Report) (n : ℕ) (ch : Chain) (form : Form) → Fine form → testedOf n ch ≡ done tt → testedOf n (taken what n ch form .state) ≡ done tt
+unfolding Fine
+fine-tested what n ch (samples ss) fine t = played-tested n ch t ss (checked-below 0 ss fine)
+fine-tested what n ch (scan k bytes) fine t = scanned-tested n ch t k bytes
+fine-tested what n ch other fine t = t
+
+pub taken-tested : (what : Report) (n : ℕ) (ch : Chain) (bytes : List ℕ) → testedOf n ch ≡ done tt → testedOf n (taken what n ch (formOf n bytes) .state) ≡ done tt
+taken-tested what n ch bytes = fine-tested what n ch (formOf n bytes) (form-fine n bytes)
+
+-- ---- what a line wrote
+
+-- a line that isn't taken is refused with 10, and changes nothing
+refused-so : (what : Report) (n : ℕ) (ch : Chain) (form : Form) → isTaken (taken what n ch form .told) ≡ false → taken what n ch form ≡ handsBack ch 10 0
+refused-so what n ch (samples ss) e = let z : _≡_ {A = Bool} true false = e in absurd (true≢false z)
+refused-so what n ch (scan k bytes) e = let z : _≡_ {A = Bool} true false = e in absurd (true≢false z)
+refused-so what n ch other e = refl
+
+-- what was taken goes on
+goes-on : (t : Told (List ℕ)) (line : ℕ) (rest : List ℕ) → isTaken t ≡ true → andThen t line rest ≡ outOf t ++ rest
+goes-on (done out) line rest e = refl
+goes-on (refused number place) line rest e = absurd (true≢false (sym e))
+
+-- ---- the walk
+
+pub record Walks (what : Report) (n : ℕ) (text : List ℕ) (whole out₀ out : List ℕ) (next : Chain) (number at place : ℕ) : Type 0 where
+  pub within : place ≤ length text
+  pub short : length text ≤ 65536
+  pub few : number ≤ place + 2
+  pub tested : testedOf n next ≡ done tt
+  pub room : length whole ≤ length out₀
+  pub fills : Fills 0 whole out₀ at (linesOut what n number next (linesOf (drop place text))) out
+
+pub walks-start : (what : Report) (n : ℕ) (text : List ℕ) (out : List ℕ) (ch : Chain) (from : ℕ) → testedOf n ch ≡ done tt → from ≤ length text → length text ≤ 65536
+    → length (linesOut what n 2 ch (linesOf (drop from text))) ≤ length out
+    → Walks what n text (linesOut what n 2 ch (linesOf (drop from text))) out out ch 2 0 from
+walks-start what n text out ch from t w s r =
+    record { within = w; short = s; few = omega arith; tested = t; room = r; fills = fills-start 0 (linesOut what n 2 ch (linesOf (drop from text))) out }
+
+module _ {what : Report} {n : ℕ} {text whole out₀ out : List ℕ} {next : Chain} {number at place : ℕ}
+    (w : Walks what n text whole out₀ out next number at place) where
+  abbrev left : List ℕ
+  left = drop place text
+
+  -- what is left is one last piece
+  last : (piece : List ℕ) → linesOut what n number next (linesOf left) ≡ piece → {out′ : List ℕ} → out′ ≡ out → {r : ℕ} {out″ : List ℕ}
+      → Puts piece at out′ r out″
+      → Puts whole 0 out₀ r out″
+  last piece e {out′} same {r} {out″} put =
+      let f = subst (λ rest. Fills 0 whole out₀ at rest out) e (w .fills) in
+      record { answer = put .answer ∙ f .count; bytes = put .bytes ∙ ap (placed at piece) same ∙ f .bytes }
+
+  -- and has room
+  last-room : (piece : List ℕ) → linesOut what n number next (linesOf left) ≡ piece → at + length piece ≤ length out
+  last-room piece e =
+      let f = subst (λ rest. Fills 0 whole out₀ at rest out) e (w .fills) in
+      omega (arith, f .count, f .size, w .room)
+
+  pub walks-over : length text ≤ place → Puts whole 0 out₀ at out
+  unfolding linesOf linesOut
+  walks-over h =
+      let f = fills-over (subst (λ rest. Fills 0 whole out₀ at rest out) (ap (λ xs. linesOut what n number next (linesOf xs)) (drop-of-length-le text h)) (w .fills)) in
+      record { answer = f .0; bytes = f .1 }
+
+  -- ---- a last line without 0AH
+
+  module _ (end : ℕ) (here : end ≡ place + lineLength left) (more : place < length text) (long : length text ≤ end) where
+    cut-so : linesOut what n number next (linesOf left) ≡ refusalLine 10 number
+    unfolding linesOut formOf
+    cut-so =
+        ap (linesOut what n number next) (lines-last left (omega (arith, length-drop place text)) (omega (arith, length-drop place text)))
+
+    pub cut-room : at + 13 ≤ length out
+    cut-room = omega (arith, last-room (refusalLine 10 number) cut-so, refusal-length 10 number)
+
+    pub walks-cut : {r : ℕ} {out′ : List ℕ} → Puts (refusalLine 10 number) at out r out′ → Puts whole 0 out₀ r out′
+    walks-cut = last (refusalLine 10 number) cut-so refl
+
+  -- ---- a line that was ended
+
+  module _ (end : ℕ) (here : end ≡ place + lineLength left) (more : end < length text) where
+    abbrev chars : List ℕ
+    chars = take (lineLength left) left
+
+    abbrev form : Form
+    form = formOf n (bytesIn (ended chars))
+
+    next-so : linesOut what n number next (linesOf left)
+        ≡ andThen (taken what n next form .told) number (linesOut what n (suc number) (taken what n next form .state) (linesOf (drop (lineLength left + 1) left)))
+    unfolding linesOut
+    next-so = ap (linesOut what n number next) (lines-next left (omega (arith, length-drop place text)))
+
+    -- there is room for what the line writes
+    line-fits : (t : Told (List ℕ)) (rest : List ℕ) → linesOut what n number next (linesOf left) ≡ andThen t number rest → at + length (outOf t) ≤ length out
+    line-fits (done piece) rest e = omega (arith, last-room (piece ++ rest) e, length-append piece rest)
+    line-fits (refused why p) rest e = omega (arith, last-room (refusalLine why number) e)
+
+    module _ (f : Frame) (holds : Holds f (heldIn (take (end - place) left))) where
+      pub walks-form : formOf n (heldBy f) ≡ form
+      walks-form =
+          let same : end - place ≡ lineLength left = omega arith in
+          ap (formOf n) (holds .front ∙ ap (λ m. heldIn (take m left)) same)
+          ∙ held-same (formOf n) (λ bytes h. form-long n bytes h ∙ none-other n) chars
+
+      pub walks-room : at + length (outOf (taken what n next (formOf n (heldBy f)) .told)) ≤ length out
+      walks-room =
+          subst (λ g. at + length (outOf (taken what n next g .told)) ≤ length out) (sym walks-form)
+          (line-fits (taken what n next form .told) _ next-so)
+
+      module _ (t : Took) {out′ : List ℕ} (takes : Takes (taken what n next (formOf n (heldBy f))) at out t out′) where
+        takes-so : Takes (taken what n next form) at out t out′
+        takes-so = subst (λ g. Takes (taken what n next g) at out t out′) walks-form takes
+
+        pub refused-line : t .taken ≡ false → linesOut what n number next (linesOf left) ≡ refusalLine 10 number
+        refused-line e =
+            next-so
+            ∙ ap (λ (o : Outcome Chain (List ℕ)). andThen (o .told) number (linesOut what n (suc number) (o .state) (linesOf (drop (lineLength left + 1) left))))
+            (refused-so what n next form (sym (takes-so .taken) ∙ e))
+
+        -- a line that was refused leaves the buffer as it was
+        unchanged : t .taken ≡ false → out′ ≡ out
+        unchanged e =
+            takes-so .puts .bytes
+            ∙ ap (λ (o : Outcome Chain (List ℕ)). placed at (outOf (o .told)) out) (refused-so what n next form (sym (takes-so .taken) ∙ e))
+            ∙ placed-none out at
+
+        pub walks-refusal-room : t .taken ≡ false → at + 13 ≤ length out′
+        walks-refusal-room e =
+            omega (arith, last-room (refusalLine 10 number) (refused-line e), refusal-length 10 number, ap length (unchanged e))
+
+        pub walks-refused : t .taken ≡ false → {r : ℕ} {out″ : List ℕ} → Puts (refusalLine 10 number) at out′ r out″ → Puts whole 0 out₀ r out″
+        walks-refused e = last (refusalLine 10 number) (refused-line e) (unchanged e)
+
+        pub walks-more : t .taken ≡ true → Walks what n text whole out₀ out′ (t .chain) (number + 1) (t .at) (end + 1)
+        walks-more e =
+            record {
+              within = omega arith;
+              short = w .short;
+              few = omega (arith, w .few);
+              tested = subst (λ c. testedOf n c ≡ done tt) (sym (takes-so .chain)) (taken-tested what n next (bytesIn (ended chars)) (w .tested));
+              room = w .room;
+              fills =
+                  subst (λ xs. Fills 0 whole out₀ (t .at) xs out′) rest-so
+                  (fills-more (outOf (taken what n next form .told)) rest (subst (λ xs. Fills 0 whole out₀ at xs out) split-so (w .fills)) fits
+                  (takes-so .puts .answer) (takes-so .puts .bytes));
+            }
+          where
+            rest : List ℕ
+            rest = linesOut what n (suc number) (taken what n next form .state) (linesOf (drop (lineLength left + 1) left))
+
+            split-so : linesOut what n number next (linesOf left) ≡ outOf (taken what n next form .told) ++ rest
+            split-so = next-so ∙ goes-on (taken what n next form .told) number rest (sym (takes-so .taken) ∙ e)
+
+            fits : 0 + length whole ≤ length out₀
+            fits = omega (arith, w .room)
+
+            after-line : place + (lineLength left + 1) ≡ end + 1
+            after-line = omega arith
+
+            rest-so : rest ≡ linesOut what n (number + 1) (t .chain) (linesOf (drop (end + 1) text))
+            rest-so =
+                ap₂ (λ k xs. linesOut what n k (taken what n next form .state) (linesOf xs)) (sym (add-one number))
+                (drop-drop (lineLength left + 1) place text ∙ ap (λ m. drop m text) after-line)
+                ∙ ap (λ c. linesOut what n (number + 1) c (linesOf (drop (end + 1) text))) (sym (takes-so .chain))

@@ -1,0 +1,47 @@
+-- `capture::reports::rise_line` meets its contract.
+-- Assumes nothing.
+use mathlib.Core.Path.{ap}
+use native.Mathlib.Omega.{arith}
+use lib.ListN.{length}
+use Rattle.capture.specs.declared.Report.{Report}
+use Rattle.capture.specs.Reports.{riseLine}
+use Rattle.capture.proofs.Reported.{puts-as, screen-length}
+use borrow.Author.Needs.{needs}
+use Rattle.capture.proofs.reports.rise_line.Statement.{statement}
+use Rattle.capture.proofs.reports.rise_line.Tie as tie
+
+line-requires : tie.Need-line-requires
+line-requires c κs =
+    let a = c .before .before .before .before .before .args in
+    omega (arith, ap (λ (w : Report). length (riseLine w (a .k) (a .chip))) (c .before .before .enum-told .given .1))
+
+screen-line-requires : tie.Need-screen-line-requires
+screen-line-requires c κs =
+    let a = c .before .before .before .before .args in
+    omega (arith, ap (λ (w : Report). length (riseLine w (a .k) (a .chip))) (c .before .enum-told2 .given .1), screen-length (a .k) (a .chip))
+
+returns : tie.Need-returns
+returns c =
+    let a = c .before .before .before .before .before .before .before .before .args in
+    puts-as (ap (λ (w : Report). riseLine w (a .k) (a .chip)) (c .before .before .before .before .before .enum-told .given .1)) (c .before .before .line .ensures)
+
+returns-2 : tie.Need-returns-2
+returns-2 c =
+    let a = c .before .before .before .before .before .before .before .args in
+    puts-as (ap (λ (w : Report). riseLine w (a .k) (a .chip)) (c .before .before .before .before .enum-told2 .given .1)) (c .before .before .screen-line .ensures)
+
+pub rise-line-spec : {M : Type 1} → statement M
+rise-line-spec =
+    tie.close
+    (tie.spec
+    (λ c. search needs)
+    (λ c. search needs)
+    (λ c. search needs)
+    (λ c. search needs)
+    line-requires
+    (λ c. search needs)
+    screen-line-requires
+    (λ c. search needs)
+    returns
+    (λ c. search needs)
+    returns-2)

@@ -1,0 +1,133 @@
+-- `capture::walk::lines` meets its contract. The invariant is `Walks`: what is left of the text writes what is left of the output.
+-- Assumes nothing.
+use mathlib.Core.Path.{_≡_, refl, ap, sym, _∙_}
+use Prim.Native.Nat.{_+_, _-_, _≤_}
+use native.Mathlib.Omega.{arith}
+use borrow.Author.Tests.{not-true, not-false}
+use lib.ListN.{length, drop}
+use Rattle.capture.specs.Lines.{linesOf}
+use Rattle.capture.specs.Replay.{linesOut}
+use Rattle.capture.proofs.Walks.{Walks, walks-start, walks-over, cut-room, walks-cut, walks-room, walks-refusal-room, walks-refused, walks-more}
+use borrow.Author.Needs.{needs}
+use Rattle.capture.proofs.walk.lines.Statement.{statement}
+use Rattle.capture.proofs.walk.lines.Tie as tie
+
+abbrev Inv-loop : tie.InvT-loop
+Inv-loop what n text from out₀ next₀ number₀ at₀ place₀ out next number at place =
+    Walks what n text (linesOut what n 2 next₀ (linesOf (drop from text))) out₀ out next number at place
+
+abbrev μ-loop : tie.MeasureT-loop
+μ-loop what n text from out₀ next₀ number₀ at₀ place₀ out next number at place = length text - place
+
+loop-holds : tie.Need-loop-holds Inv-loop μ-loop
+loop-holds c =
+    let a = c .before .before .args in
+    let p = c .before .before .pre in
+    walks-start (a .what) (a .n) (a .text .now) (a .out .now) (a .chain) (a .from) (p .0) (p .1 .0 .0) (p .1 .0 .1) (p .1 .1)
+
+refusal-requires : tie.Need-refusal-requires Inv-loop μ-loop
+refusal-requires c κs =
+    let l = c .before .before .before .before .loop in
+    let e = c .before .before .line-end in
+    cut-room (l .inv) (e .result) (e .ensures) (c .before .before .before .loop-test .taken) (c .before .if1 .taken)
+
+same-length : tie.Need-same-length Inv-loop μ-loop
+same-length c = search (needs, c .before .before .before .before .before .before .before .loop .inv .fills .size)
+
+returns : tie.Need-returns Inv-loop μ-loop
+returns c =
+    let l = c .before .before .before .before .before .before .before .loop in
+    let e = c .before .before .before .before .before .line-end in
+    walks-cut (l .inv) (e .result) (e .ensures) (c .before .before .before .before .before .before .loop-test .taken)
+    (c .before .before .before .before .if1 .taken) (c .before .before .refusal .ensures)
+
+sub-frame-of : tie.Need-sub-frame-of Inv-loop μ-loop
+sub-frame-of c = omega (arith, c .before .line-end .ensures)
+
+part-frame-of-start : tie.Need-part-frame-of-start Inv-loop μ-loop
+part-frame-of-start c = omega (arith, c .before .line-end .ensures)
+
+part-frame-of-end : tie.Need-part-frame-of-end Inv-loop μ-loop
+part-frame-of-end c = omega (arith, c .before .line-end .ensures)
+
+line-requires : tie.Need-line-requires Inv-loop μ-loop
+line-requires c κs =
+    let l = c .before .before .before .before .before .before .loop in
+    let e = c .before .before .before .before .line-end in
+    let f = c .before .frame-of in
+    (l .inv .tested, (omega (arith, f .ensures .count, f .ensures .room), walks-room (l .inv) (e .result) (e .ensures) (c .before .before .before .if1 .left) (f .result) (f .ensures)))
+
+refusal-requires-2 : tie.Need-refusal-requires-2 Inv-loop μ-loop
+refusal-requires-2 c κs =
+    let l = c .before .before .before .before .before .before .before .before .before .before .before .before .loop in
+    let e = c .before .before .before .before .before .before .before .before .before .before .line-end in
+    let f = c .before .before .before .before .before .before .before .frame-of in
+    let t = c .before .before .before .before .before .line in
+    walks-refusal-room (l .inv) (e .result) (e .ensures) (c .before .before .before .before .before .before .before .before .before .if1 .left) (f .result) (f .ensures)
+    (t .result) (t .ensures) (not-true (t .result .taken) (c .before .if2 .taken))
+
+same-length-2 : tie.Need-same-length-2 Inv-loop μ-loop
+same-length-2 c = search (needs, c .before .before .before .before .before .before .before .before .before .before .before .before .before .before .before .loop .inv .fills .size)
+
+returns-2 : tie.Need-returns-2 Inv-loop μ-loop
+returns-2 c =
+    let l = c .before .before .before .before .before .before .before .before .before .before .before .before .before .before .before .loop in
+    let e = c .before .before .before .before .before .before .before .before .before .before .before .before .before .line-end in
+    let f = c .before .before .before .before .before .before .before .before .before .before .frame-of in
+    let t = c .before .before .before .before .before .before .before .before .line in
+    walks-refused (l .inv) (e .result) (e .ensures) (c .before .before .before .before .before .before .before .before .before .before .before .before .if1 .left) (f .result) (f .ensures)
+    (t .result) (t .ensures) (not-true (t .result .taken) (c .before .before .before .before .if2 .taken)) (c .before .before .refusal2 .ensures)
+
+add-place : tie.Need-add-place Inv-loop μ-loop
+add-place c = omega arith
+
+add-number : tie.Need-add-number Inv-loop μ-loop
+add-number c =
+    let l = c .before .before .before .before .before .before .before .before .before .before .before .before .loop in
+    omega (arith, l .inv .few, l .inv .within, l .inv .short)
+
+loop-less : tie.Need-loop-less Inv-loop μ-loop
+loop-less c =
+    let e = c .before .before .before .before .before .before .before .before .before .before .line-end in
+    omega (arith, e .ensures)
+
+loop-again : tie.Need-loop-again Inv-loop μ-loop
+loop-again c =
+    let l = c .before .before .before .before .before .before .before .before .before .before .before .before .loop in
+    let e = c .before .before .before .before .before .before .before .before .before .before .line-end in
+    let f = c .before .before .before .before .before .before .before .frame-of in
+    let t = c .before .before .before .before .before .line in
+    walks-more (l .inv) (e .result) (e .ensures) (c .before .before .before .before .before .before .before .before .before .if1 .left) (f .result) (f .ensures)
+    (t .result) (t .ensures) (not-false (t .result .taken) (c .before .if2 .left))
+
+same-length-3 : tie.Need-same-length-3 Inv-loop μ-loop
+same-length-3 c = c .before .loop .inv .fills .size
+
+returns-3 : tie.Need-returns-3 Inv-loop μ-loop
+returns-3 c = walks-over (c .before .loop .inv) (c .loop-test .left)
+
+pub lines-spec : {M : Type 1} → statement M
+lines-spec =
+    tie.close
+    (tie.spec
+    Inv-loop
+    μ-loop
+    loop-holds
+    (λ c κs. search needs)
+    refusal-requires
+    same-length
+    returns
+    sub-frame-of
+    part-frame-of-start
+    part-frame-of-end
+    (λ c κs. search needs)
+    line-requires
+    refusal-requires-2
+    same-length-2
+    returns-2
+    add-place
+    add-number
+    loop-less
+    loop-again
+    same-length-3
+    returns-3)

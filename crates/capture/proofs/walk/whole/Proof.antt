@@ -1,0 +1,90 @@
+-- `capture::walk::whole` meets its contract: a text too long, one whose first line is refused, and the lines after the first.
+-- Assumes nothing.
+use mathlib.Core.Path.{_≡_, refl, ap, sym, subst, _∙_}
+use Prim.Native.Nat.{ℕ, _+_, _≤_}
+use native.Mathlib.Omega.{arith}
+use lib.Dec.{T}
+use lib.ListN.{length, drop}
+use Rattle.base.proofs.Picks.{pick-yes}
+use Rattle.chain.specs.Chain.{chipCount, testedOf}
+use Rattle.chain.specs.Entries.{startChain}
+use Rattle.capture.specs.Lines.{linesOf}
+use Rattle.capture.specs.Parts.{lineLength, firstIn, chipsIn, Puts}
+use Rattle.capture.specs.Replay.{linesOut}
+use Rattle.capture.proofs.Puts.{refusal-length}
+use Rattle.capture.proofs.Firsts.{long-out, none-out, replays-so, piece-room, begun-more, begun-tested, begun-out}
+use borrow.Author.Needs.{needs}
+use Rattle.capture.proofs.walk.whole.Statement.{statement}
+use Rattle.capture.proofs.walk.whole.Tie as tie
+
+refusal-requires : tie.Need-refusal-requires
+refusal-requires c κs =
+    let a = c .before .before .before .before .args in
+    let p = piece-room (length (a .out .now)) (long-out (a .what) (a .text .now) (c .before .if1 .taken)) (c .before .before .before .before .pre) in
+    omega (arith, p, refusal-length 11 0)
+
+returns : tie.Need-returns
+returns c =
+    let a = c .before .before .before .before .before .before .before .args in
+    replays-so _ (long-out (a .what) (a .text .now) (c .before .before .before .before .if1 .taken)) (c .before .before .refusal .ensures)
+
+refusal-requires-2 : tie.Need-refusal-requires-2
+refusal-requires-2 c κs =
+    let a = c .before .before .before .before .before .before .before .args in
+    let e = none-out (a .what) (a .text .now) (c .before .before .before .before .if1 .left) (sym (c .before .before .first .ensures) ∙ c .before .if2 .taken) in
+    let p = piece-room (length (a .out .now)) e (c .before .before .before .before .before .before .before .pre) in
+    omega (arith, p, refusal-length 10 1)
+
+returns-2 : tie.Need-returns-2
+returns-2 c =
+    let a = c .before .before .before .before .before .before .before .before .before .before .args in
+    let e = none-out (a .what) (a .text .now) (c .before .before .before .before .before .before .before .if1 .left) (sym (c .before .before .before .before .before .first .ensures) ∙ c .before .before .before .before .if2 .taken) in
+    replays-so _ e (c .before .before .refusal2 .ensures)
+
+add-lines : tie.Need-add-lines
+add-lines c =
+    let a = c .before .before .before .before .before .before .before .before .args in
+    let e : c .before .before .before .before .line-end .result ≡ lineLength (a .text .now) = omega (arith, c .before .before .before .before .line-end .ensures) in
+    omega
+    (arith, begun-more (a .what) (a .text .now) _ _ (c .before .start .result) (c .before .before .before .before .before .if1 .left) e (c .before .before .before .first .ensures) (c .before .before .if2 .left) (c .before .start .ensures))
+
+lines-requires : tie.Need-lines-requires
+lines-requires c κs =
+    let a = c .before .before .before .before .before .before .before .before .before .args in
+    let short = c .before .before .before .before .before .before .if1 .left in
+    let end = c .before .before .before .before .before .line-end in
+    let first = c .before .before .before .before .first in
+    let start = c .before .before .start in
+    let e : end .result ≡ lineLength (a .text .now) = omega (arith, end .ensures) in
+    let out = begun-out (a .what) (a .text .now) (end .result) (first .result) (start .result) short e (first .ensures) (c .before .before .before .if2 .left) (start .ensures) in
+    let more = begun-more (a .what) (a .text .now) (end .result) (first .result) (start .result) short e (first .ensures) (c .before .before .before .if2 .left) (start .ensures) in
+    (begun-tested (a .what) (a .text .now) (end .result) (first .result) (start .result) short e (first .ensures) (c .before .before .before .if2 .left) (start .ensures), ((omega (arith, more), short), piece-room (length (a .out .now)) out (c .before .before .before .before .before .before .before .before .before .pre)))
+
+returns-3 : tie.Need-returns-3
+returns-3 c =
+    let a = c .before .before .before .before .before .before .before .before .before .before .before .before .args in
+    let short = c .before .before .before .before .before .before .before .before .before .if1 .left in
+    let end = c .before .before .before .before .before .before .before .before .line-end in
+    let first = c .before .before .before .before .before .before .before .first in
+    let start = c .before .before .before .before .before .start in
+    let e : end .result ≡ lineLength (a .text .now) = omega (arith, end .ensures) in
+    replays-so _ (begun-out (a .what) (a .text .now) (end .result) (first .result) (start .result) short e (first .ensures) (c .before .before .before .before .before .before .if2 .left) (start .ensures))
+    (c .before .before .lines .ensures)
+
+pub whole-spec : {M : Type 1} → statement M
+whole-spec =
+    tie.close
+    (tie.spec
+    refusal-requires
+    (λ c. search needs)
+    returns
+    (λ c κs. search needs)
+    (λ c κs. omega (arith, c .line-end .ensures))
+    refusal-requires-2
+    (λ c. search needs)
+    returns-2
+    (λ c κs. search needs)
+    add-lines
+    lines-requires
+    (λ c. search needs)
+    returns-3)

@@ -1,0 +1,6 @@
+pub mod Lines
+pub mod Frames
+pub mod Reports
+pub mod Replay
+pub mod Parts
+pub mod Law

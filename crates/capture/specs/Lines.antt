@@ -1,0 +1,71 @@
+-- Document 01, "Capture text": lines of upper-case hexadecimal, two digits a byte, ended by 0AH; read and written.
+-- Assumes nothing.
+use Prim.Native.Nat.{ℕ, _+_, _*_, _-_, _/_, _%_, _^_}
+use mathlib.Core.Bool.{Bool, true, _&&_}
+use mathlib.Core.List.{List, [], _∷_, _++_}
+use lib.Dec.{eqb, leb, ltb}
+use lib.ListN.{length}
+use Rattle.base.specs.Pick.{pick}
+
+-- the byte that ends a line
+abbrev pub newline : ℕ
+newline = 0x0A
+
+-- ---- lines of a text
+
+-- a line's characters: ended by 0AH, or cut off by the text's end
+pub data Line : Type 0 where
+  ended : List ℕ → Line
+  cutOff : List ℕ → Line
+
+-- a character before the lines that follow it
+abbrev pub before : ℕ → List Line → List Line
+before ch [] = cutOff (ch ∷ []) ∷ []
+before ch (ended chars ∷ rest) = ended (ch ∷ chars) ∷ rest
+before ch (cutOff chars ∷ rest) = cutOff (ch ∷ chars) ∷ rest
+
+-- the lines of a text
+unfoldable pub linesOf : List ℕ → List Line
+linesOf [] = []
+linesOf (ch ∷ text) = pick (eqb ch newline) (ended [] ∷ linesOf text) (before ch (linesOf text))
+
+-- ---- digits read
+
+-- what an upper-case hexadecimal digit counts; 16 where a character is none
+unfoldable pub digitOf : ℕ → ℕ
+digitOf ch = pick (leb 0x30 ch && leb ch 0x39) (ch - 0x30) (pick (leb 0x41 ch && leb ch 0x46) (ch - 0x37) 16)
+
+-- every character is a digit
+unfoldable pub allDigits : List ℕ → Bool
+allDigits [] = true
+allDigits (ch ∷ chars) = ltb (digitOf ch) 16 && allDigits chars
+
+-- two digits a byte, the high one first
+unfoldable pub bytesOf : List ℕ → List ℕ
+bytesOf [] = []
+bytesOf (high ∷ []) = []
+bytesOf (high ∷ low ∷ chars) = (16 * digitOf high + digitOf low) ∷ bytesOf chars
+
+-- a line's bytes; none, as no form has it, where it isn't ended or isn't digits two by two
+abbrev pub bytesIn : Line → List ℕ
+bytesIn (ended chars) = pick (allDigits chars && eqb (length chars % 2) 0) (bytesOf chars) []
+bytesIn (cutOff chars) = []
+
+-- ---- lines written
+
+-- the digit that counts so much
+abbrev pub digitFor : ℕ → ℕ
+digitFor v = pick (ltb v 10) (0x30 + v) (0x37 + v)
+
+-- bytes as digits, the high one first
+unfoldable pub digitsFor : List ℕ → List ℕ
+digitsFor [] = []
+digitsFor (byte ∷ bytes) = digitFor (byte / 16) ∷ digitFor (byte % 16) ∷ digitsFor bytes
+
+-- a line of bytes
+unfoldable pub lineFor : List ℕ → List ℕ
+lineFor bytes = digitsFor bytes ++ newline ∷ []
+
+-- a number in four bytes, high first
+abbrev pub fourBytes : ℕ → List ℕ
+fourBytes n = (n / 2 ^ 24 % 256) ∷ (n / 2 ^ 16 % 256) ∷ (n / 2 ^ 8 % 256) ∷ (n % 256) ∷ []

@@ -1,0 +1,64 @@
+-- Document 01, "Capture text": what a whole text is replayed to, line by line, and the entries' promises.
+-- Assumes nothing.
+use mathlib.Core.Path.{_≡_}
+use Prim.Native.Nat.{ℕ, suc}
+use mathlib.Core.List.{List, [], _∷_, _++_}
+use lib.Dec.{leb}
+use lib.ListN.{length}
+use Rattle.base.specs.Lent.{laid}
+use Rattle.base.specs.Pick.{pick}
+use Rattle.base.specs.Refusals.{Told, done, refused, Outcome, handsBack}
+use Rattle.chip.specs.Edges.{loadRises}
+use Rattle.chip.specs.Scans.{scanned}
+use Rattle.chain.specs.declared.Chain.{Chain}
+use Rattle.chain.specs.Chain.{steppedChain, played}
+use Rattle.chain.specs.Entries.{startChain, chipAt, withChip}
+use Rattle.capture.specs.declared.Report.{Report}
+use Rattle.capture.specs.Lines.{Line, linesOf, bytesIn}
+use Rattle.capture.specs.Frames.{Form, samples, scan, other, formOf, firstOf}
+use Rattle.capture.specs.Reports.{atRise, atScan, refusalLine}
+
+-- what samples write: at each LOAD rise, of the chain after it
+unfoldable pub risesIn : Report → ℕ → List ℕ → Chain → List ℕ
+risesIn what n [] ch = []
+risesIn what n (s ∷ ss) ch =
+    pick (loadRises (ch .levels) s) (atRise what n (steppedChain n s ch)) [] ++ risesIn what n ss (steppedChain n s ch)
+
+-- a line: the chain after it and what it writes; or refusal 10, and the chain as it was
+abbrev pub taken : Report → ℕ → Chain → Form → Outcome Chain (List ℕ)
+taken what n ch (samples ss) = record { state = played n ss ch; told = done (risesIn what n ss ch) }
+taken what n ch (scan k bytes) =
+    record { state = withChip k (scanned bytes (chipAt k ch)) ch; told = done (atScan what k bytes (chipAt k ch)) }
+taken what n ch other = handsBack ch 10 0
+
+-- what a line wrote, and then the rest; or its refusal, and nothing more
+abbrev pub andThen : Told (List ℕ) → ℕ → List ℕ → List ℕ
+andThen (done out) line rest = out ++ rest
+andThen (refused number place) line rest = refusalLine number line
+
+-- lines one after another, from a line's number on
+unfoldable pub linesOut : Report → ℕ → ℕ → Chain → List Line → List ℕ
+linesOut what n line ch [] = []
+linesOut what n line ch (l ∷ ls) =
+    let t = taken what n ch (formOf n (bytesIn l)) in
+    andThen (t .told) line (linesOut what n (suc line) (t .state) ls)
+
+-- the lines after the first, where the first is of its form: a chain of N chips, started
+abbrev pub afterFirst : Report → Told ℕ → List Line → List ℕ
+afterFirst what (done n) ls = linesOut what n 2 startChain ls
+afterFirst what (refused number place) ls = refusalLine number 1
+
+-- all lines; the first missing is refused as a line that isn't of the form
+abbrev pub allOut : Report → List Line → List ℕ
+allOut what [] = refusalLine 10 1
+allOut what (l ∷ ls) = afterFirst what (firstOf (bytesIn l)) ls
+
+-- the output of a text of at most 65,536 bytes; refusal 11 comes before any other output, and names line 0
+unfoldable pub outputOf : Report → List ℕ → List ℕ
+outputOf what text = pick (leb (length text) 65536) (allOut what (linesOf text)) (refusalLine 11 0)
+
+-- what `replay` and `screen` do: the output stands at the front of the lent array, the rest is as it was, and the answer is how
+-- many bytes it has
+pub record Replays (what : Report) (text out : List ℕ) (r : ℕ) (out′ : List ℕ) : Type 0 where
+  pub answer : r ≡ length (outputOf what text)
+  pub bytes : out′ ≡ laid (outputOf what text) out

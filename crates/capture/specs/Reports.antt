@@ -1,0 +1,57 @@
+-- Document 01, "Capture text": what is written at a LOAD rise, at a scan and at a refusal. There are two reports over one walk:
+-- `Words`, the one of document 01, and `Screen`, the segments lit.
+-- Assumes nothing.
+use Prim.Native.Nat.{ℕ, suc, _/_, _%_}
+use mathlib.Core.Bool.{Bool, true, false, _&&_}
+use mathlib.Core.List.{List, [], _∷_, _++_}
+use lib.Dec.{eqb}
+use lib.ListN.{take}
+use Rattle.base.specs.Pick.{pick}
+use Rattle.chip.specs.declared.Chip.{Chip}
+use Rattle.chip.specs.declared.Recorded.{Recorded}
+use Rattle.chip.specs.declared.Recorded.the-variants.{Nothing, Key}
+use Rattle.chip.specs.Scans.{scanned, recorded}
+use Rattle.chip.specs.Segments.{litOf}
+use Rattle.chain.specs.declared.Chain.{Chain}
+use Rattle.capture.specs.declared.Report.{Report}
+use Rattle.capture.specs.declared.Report.the-variants.{Words, Screen}
+use Rattle.capture.specs.Lines.{lineFor, fourBytes}
+
+-- the segments lit of a chip: 30, chip, eight bytes, DIG0 first
+abbrev pub screenLine : ℕ → Chip → List ℕ
+screenLine k c = lineFor (0x30 ∷ k ∷ litOf c)
+
+-- of a chip after a LOAD rise: 10, chip, word, high byte first; the word is the register, which the rise obeyed
+abbrev pub riseLine : Report → ℕ → Chip → List ℕ
+riseLine Words k c = lineFor (0x10 ∷ k ∷ (c .line .register / 256) ∷ (c .line .register % 256) ∷ [])
+riseLine Screen k c = screenLine k c
+
+-- of chips from a number up
+unfoldable pub riseLines : Report → ℕ → List Chip → List ℕ
+riseLines what k [] = []
+riseLines what k (c ∷ cs) = riseLine what k c ++ riseLines what (suc k) cs
+
+-- of a chain after a LOAD rise: each chip from 0 up
+abbrev pub atRise : Report → ℕ → Chain → List ℕ
+atRise what n ch = riseLines what 0 (take n (ch .chips))
+
+-- a recorded key: 11, chip, code
+abbrev pub keyLine : ℕ → Recorded → List ℕ
+keyLine k Nothing = []
+keyLine k (Key code) = lineFor (0x11 ∷ k ∷ code ∷ [])
+
+-- lists of bytes are the same
+unfoldable pub sameBytes : List ℕ → List ℕ → Bool
+sameBytes [] [] = true
+sameBytes [] (y ∷ ys) = false
+sameBytes (x ∷ xs) [] = false
+sameBytes (x ∷ xs) (y ∷ ys) = eqb x y && sameBytes xs ys
+
+-- of a scan of a chip: the key recorded; or its segments lit, where they differ from those before
+abbrev pub atScan : Report → ℕ → List ℕ → Chip → List ℕ
+atScan Words k bytes c = keyLine k (recorded bytes c)
+atScan Screen k bytes c = pick (sameBytes (litOf c) (litOf (scanned bytes c))) [] (screenLine k (scanned bytes c))
+
+-- a refusal: 1F, number, the line's number in four bytes
+abbrev pub refusalLine : ℕ → ℕ → List ℕ
+refusalLine number line = lineFor (0x1F ∷ number ∷ fourBytes line)

@@ -1,0 +1,34 @@
+// Capture text: a whole text replayed into a lent array that always suffices. One walk over the text serves two reports: the
+// words obeyed and the keys recorded, and the segments lit.
+mod put;
+mod read;
+mod reports;
+mod walk;
+
+ghost use Rattle.base.specs.Lent.{Counts};
+ghost use Rattle.capture.specs.Replay.{Replays};
+
+// What is written at each LOAD rise and at each scan.
+pub enum Report {
+    // 10 chip word at a rise, 11 chip code at a recorded key.
+    Words,
+    // 30 chip and the segments lit, at a rise, and at a scan that changes them.
+    Screen,
+}
+
+// Replays a text: the words obeyed and the keys recorded. The answer is how many bytes stand at the array's front; a text never
+// writes more than 18 bytes for each of its own, and a refusal's 13.
+pub fn replay(text: &[u8], out: &mut [u8; 1179661]) -> usize
+    ensures { λ r. ⌜ Replays Report.Words (now (text .entry)) (now (out .entry)) r (now (out .exit)) ⌝ }
+    ensures { λ r. ⌜ Counts r (now (out .exit)) ⌝ }
+{
+    walk::whole(Report::Words, text, out)
+}
+
+// Replays a text: the segments lit. At most 42 bytes for each of the text's, and a refusal's 13.
+pub fn screen(text: &[u8], out: &mut [u8; 2752525]) -> usize
+    ensures { λ r. ⌜ Replays Report.Screen (now (text .entry)) (now (out .entry)) r (now (out .exit)) ⌝ }
+    ensures { λ r. ⌜ Counts r (now (out .exit)) ⌝ }
+{
+    walk::whole(Report::Screen, text, out)
+}

@@ -1,0 +1,119 @@
+// What is written at a LOAD rise and at a scan.
+use crate::Report;
+use crate::put;
+use chain::Chain;
+use chip::Chip;
+use chip::Recorded;
+ghost use mathlib.Core.Path.{_≡_};
+ghost use Prim.Native.Nat.{_+_, _*_, _≤_, _<_};
+ghost use lib.ListN.{length};
+ghost use Rattle.chip.specs.Scans.{scanned, recorded};
+ghost use Rattle.capture.specs.Parts as P;
+ghost use Rattle.capture.specs.Reports as R;
+
+// The segments lit of a chip: 30, chip, eight bytes.
+fn screen_line(k: u8, chip: Chip, out: &mut [u8], at: usize) -> usize
+    requires { ⌜ at + 21 ≤ length (now out) ⌝ }
+    ensures { λ r. ⌜ P.Puts (R.screenLine k chip) at (now (out .entry)) r (now (out .exit)) ⌝ }
+{
+    let lit = chip::segments::lit(chip);
+    let bytes = [
+        0x30,
+        k,
+        lit[0],
+        lit[1],
+        lit[2],
+        lit[3],
+        lit[4],
+        lit[5],
+        lit[6],
+        lit[7],
+    ];
+    put::line(&bytes, out, at)
+}
+
+// One chip after a LOAD rise: its register, which the rise obeyed, or its segments lit.
+fn rise_line(what: Report, k: u8, chip: Chip, out: &mut [u8], at: usize) -> usize
+    requires { ⌜ at + length (R.riseLine what k chip) ≤ length (now out) ⌝ }
+    ensures { λ r. ⌜ P.Puts (R.riseLine what k chip) at (now (out .entry)) r (now (out .exit)) ⌝ }
+{
+    match what {
+        Report::Words => {
+            let w = chip.line.register;
+            let bytes = [0x10, k, (w / 256) as u8, (w % 256) as u8];
+            put::line(&bytes, out, at)
+        }
+        Report::Screen => screen_line(k, chip, out, at),
+    }
+}
+
+// Every chip of a chain after a LOAD rise, from 0 up.
+pub(crate) fn rise(what: Report, n: usize, chain: Chain, out: &mut [u8], at: usize) -> usize
+    requires { ⌜ n ≤ 8 ⌝ }
+    requires { ⌜ at + length (R.atRise what n chain) ≤ length (now out) ⌝ }
+    ensures { λ r. ⌜ P.Puts (R.atRise what n chain) at (now (out .entry)) r (now (out .exit)) ⌝ }
+{
+    let chips = chain.chips;
+    let mut end = at;
+    let mut k = 0;
+    while k < n {
+        let c = chips[k];
+        end = rise_line(what, k as u8, c, out, end);
+        k += 1;
+    }
+    end
+}
+
+// Whether the same segments are lit.
+fn same(a: [u8; 8], b: [u8; 8]) -> bool
+    ensures { λ r. ⌜ r ≡ R.sameBytes a b ⌝ }
+{
+    let mut i = 0;
+    while i < 8 {
+        if a[i] != b[i] {
+            return false;
+        }
+        i += 1;
+    }
+    true
+}
+
+// A recorded key: 11, chip, code.
+fn key_line(k: u8, what: Recorded, out: &mut [u8], at: usize) -> usize
+    requires { ⌜ at + length (R.keyLine k what) ≤ length (now out) ⌝ }
+    ensures { λ r. ⌜ P.Puts (R.keyLine k what) at (now (out .entry)) r (now (out .exit)) ⌝ }
+{
+    match what {
+        Recorded::Nothing => at,
+        Recorded::Key(code) => {
+            let bytes = [0x11, k, code];
+            put::line(&bytes, out, at)
+        }
+    }
+}
+
+// One scan: the key recorded, or the segments lit where they differ from those before.
+pub(crate) fn scan(
+    what: Report,
+    k: u8,
+    bytes: [u8; 8],
+    before: Chip,
+    out: &mut [u8],
+    at: usize,
+) -> usize
+    requires { ⌜ at + length (R.atScan what k bytes before) ≤ length (now out) ⌝ }
+    ensures { λ r. ⌜ P.Puts (R.atScan what k bytes before) at (now (out .entry)) r (now (out .exit)) ⌝ }
+{
+    let taken = chip::scans::scanned(bytes, before);
+    let after = taken.chip;
+    let key = taken.recorded;
+    match what {
+        Report::Words => key_line(k, key, out, at),
+        Report::Screen => {
+            if same(chip::segments::lit(before), chip::segments::lit(after)) {
+                return at;
+            }
+            screen_line(k, after, out, at)
+        }
+    }
+}

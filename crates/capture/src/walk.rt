@@ -1,0 +1,238 @@
+// The walk over a text: line by line, each tested whole before any of it is played.
+use crate::Report;
+use crate::put;
+use crate::read;
+use crate::read::Frame;
+use crate::reports;
+use base::Verdict;
+use chain::Chain;
+use chain::finder::Rise;
+use chip::ScanAnswer;
+ghost use mathlib.Core.Path.{_≡_};
+ghost use Prim.Native.Nat.{_+_, _*_, _≤_, _<_};
+ghost use mathlib.Core.List.{List, _∷_};
+ghost use lib.ListN.{length, drop};
+ghost use Rattle.base.specs.Refusals.{done};
+ghost use Rattle.chain.specs.Chain as C;
+ghost use Rattle.capture.specs.Frames as F;
+ghost use Rattle.capture.specs.Lines as L;
+ghost use Rattle.capture.specs.Parts as P;
+ghost use Rattle.capture.specs.Replay as R;
+
+// A line: the chain after it, whether it was taken, and the place past what it wrote.
+pub(crate) struct Took {
+    pub(crate) chain: Chain,
+    pub(crate) taken: bool,
+    pub(crate) at: usize,
+}
+
+// Samples that passed their test, from one LOAD rise to the next.
+fn samples(what: Report, n: usize, chain: Chain, ss: &[u8], out: &mut [u8], at: usize) -> Took
+    requires { ⌜ C.testedOf n chain ≡ done tt ⌝ }
+    requires { ⌜ C.checkedFrom 0 (now ss) ≡ done tt ⌝ }
+    requires { ⌜ at + length (R.risesIn what n (now ss) chain) ≤ length (now out) ⌝ }
+    ensures { λ r. ⌜ P.Takes (R.taken what n chain (F.samples (now (ss .entry)))) at (now (out .entry)) r (now (out .exit)) ⌝ }
+{
+    let mut next = chain;
+    let mut end = at;
+    let mut i = 0;
+    while i < ss.len() {
+        let found = chain::finder::next_rise(next.levels, &ss[i..]);
+        let stop = i + found.passed;
+        let part = chain::play::play(n, next, &ss[i..stop]);
+        let after = part.chain;
+        next = after;
+        i = stop;
+        let rise = found.rise;
+        match rise {
+            Rise::Nothing => {
+                return Took {
+                    chain: next,
+                    taken: true,
+                    at: end,
+                };
+            }
+            Rise::At(_) => {
+                end = reports::rise(what, n, next, out, end);
+            }
+        }
+    }
+    Took {
+        chain: next,
+        taken: true,
+        at: end,
+    }
+}
+
+// After 01: all samples are tested before any is played.
+fn sample_line(what: Report, n: usize, chain: Chain, ss: &[u8], out: &mut [u8], at: usize) -> Took
+    requires { ⌜ C.testedOf n chain ≡ done tt ⌝ }
+    requires { ⌜ (1 ≤ length (now ss)) × (length (now ss) ≤ 32) ⌝ }
+    requires { ⌜ at + length (P.outOf (R.taken what n chain (F.samplesForm (now ss)) .told)) ≤ length (now out) ⌝ }
+    ensures { λ r. ⌜ P.Takes (R.taken what n chain (F.samplesForm (now (ss .entry)))) at (now (out .entry)) r (now (out .exit)) ⌝ }
+{
+    let test = chain::tests::checked(ss);
+    match test {
+        Verdict::Refused(_) => Took {
+            chain,
+            taken: false,
+            at,
+        },
+        Verdict::Done => samples(what, n, chain, ss, out, at),
+    }
+}
+
+// After 02: a chip, and 8 scan bytes.
+fn scan_line(
+    what: Report,
+    n: usize,
+    chain: Chain,
+    k: u8,
+    bytes: [u8; 8],
+    out: &mut [u8],
+    at: usize,
+) -> Took
+    requires { ⌜ C.testedOf n chain ≡ done tt ⌝ }
+    requires { ⌜ length bytes ≡ 8 ⌝ }
+    requires { ⌜ at + length (P.outOf (R.taken what n chain (F.scanForm n (k ∷ bytes)) .told)) ≤ length (now out) ⌝ }
+    ensures { λ r. ⌜ P.Takes (R.taken what n chain (F.scanForm n (k ∷ bytes))) at (now (out .entry)) r (now (out .exit)) ⌝ }
+{
+    let place = k as usize;
+    let before = chain::one::chip_at(place, chain);
+    let scanned = chain::one::scan(n, chain, place, bytes);
+    let after = scanned.chain;
+    let answer = scanned.answer;
+    match answer {
+        ScanAnswer::Refused(_) => Took {
+            chain,
+            taken: false,
+            at,
+        },
+        ScanAnswer::Took(_) => Took {
+            chain: after,
+            taken: true,
+            at: reports::scan(what, k, bytes, before, out, at),
+        },
+    }
+}
+
+// A line after the first.
+fn line(what: Report, n: usize, chain: Chain, frame: Frame, out: &mut [u8], at: usize) -> Took
+    requires { ⌜ C.testedOf n chain ≡ done tt ⌝ }
+    requires { ⌜ frame .count ≤ 33 ⌝ }
+    requires { ⌜ at + length (P.outOf (R.taken what n chain (F.formOf n (P.heldBy frame)) .told)) ≤ length (now out) ⌝ }
+    ensures { λ r. ⌜ P.Takes (R.taken what n chain (F.formOf n (P.heldBy frame))) at (now (out .entry)) r (now (out .exit)) ⌝ }
+{
+    let count = frame.count;
+    let bytes = frame.bytes;
+    if count < 2 {
+        return Took {
+            chain,
+            taken: false,
+            at,
+        };
+    }
+    let kind = bytes[0];
+    if kind == 0x01 {
+        return sample_line(what, n, chain, &bytes[1..count], out, at);
+    }
+    if kind != 0x02 {
+        return Took {
+            chain,
+            taken: false,
+            at,
+        };
+    }
+    if count != 10 {
+        return Took {
+            chain,
+            taken: false,
+            at,
+        };
+    }
+    let eight = [
+        bytes[2],
+        bytes[3],
+        bytes[4],
+        bytes[5],
+        bytes[6],
+        bytes[7],
+        bytes[8],
+        bytes[9],
+    ];
+    scan_line(what, n, chain, bytes[1], eight, out, at)
+}
+
+// The lines from a place of the text on, from line 2.
+fn lines(what: Report, n: usize, chain: Chain, text: &[u8], from: usize, out: &mut [u8]) -> usize
+    requires { ⌜ C.testedOf n chain ≡ done tt ⌝ }
+    requires { ⌜ (from ≤ length (now text)) × (length (now text) ≤ 65536) ⌝ }
+    requires { ⌜ length (R.linesOut what n 2 chain (L.linesOf (drop from (now text)))) ≤ length (now out) ⌝ }
+    ensures { λ r. ⌜ P.Puts (R.linesOut what n 2 chain (L.linesOf (drop from (now (text .entry))))) 0 (now (out .entry)) r (now (out .exit)) ⌝ }
+{
+    let mut next = chain;
+    let mut number = 2;
+    let mut at = 0;
+    let mut place = from;
+    while place < text.len() {
+        let end = read::line_end(text, place);
+        if end >= text.len() {
+            return put::refusal(10, number, out, at);
+        }
+        let frame = read::frame_of(&text[place..end]);
+        let took = line(what, n, next, frame, out, at);
+        if !took.taken {
+            return put::refusal(10, number, out, at);
+        }
+        let after = took.chain;
+        next = after;
+        at = took.at;
+        place = end + 1;
+        number += 1;
+    }
+    at
+}
+
+// N of the first line, 00 01 N; 0 where it isn't of that form.
+fn first(text: &[u8], end: usize) -> usize
+    requires { ⌜ end ≡ P.lineLength (now text) ⌝ }
+    ensures { λ r. ⌜ r ≡ P.chipsIn (P.firstIn (L.linesOf (now (text .entry)))) ⌝ }
+{
+    if end >= text.len() {
+        return 0;
+    }
+    let frame = read::frame_of(&text[..end]);
+    let bytes = frame.bytes;
+    if frame.count != 3 {
+        return 0;
+    }
+    if bytes[0] != 0x00 {
+        return 0;
+    }
+    if bytes[1] != 0x01 {
+        return 0;
+    }
+    let n = bytes[2] as usize;
+    if !chain::tests::is_count(n) {
+        return 0;
+    }
+    n
+}
+
+// A whole text.
+pub(crate) fn whole(what: Report, text: &[u8], out: &mut [u8]) -> usize
+    requires { ⌜ length (R.outputOf what (now text)) ≤ length (now out) ⌝ }
+    ensures { λ r. ⌜ R.Replays what (now (text .entry)) (now (out .entry)) r (now (out .exit)) ⌝ }
+{
+    if text.len() > 65536 {
+        return put::refusal(11, 0, out, 0);
+    }
+    let end = read::line_end(text, 0);
+    let n = first(text, end);
+    if n == 0 {
+        return put::refusal(10, 1, out, 0);
+    }
+    let begun = chain::start(n);
+    let chain = begun.chain;
+    lines(what, n, chain, text, end + 1, out)
+}

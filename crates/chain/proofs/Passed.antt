@@ -1,0 +1,121 @@
+-- Chains that pass the tests that come first in every entry, and what the entries then do.
+--     tests-pass                        1 to 8 chips and valid records pass
+--     start-valid, start-tested         a started chain passes
+--     start-done                        1 to 8 chips are started
+--     scan-valid                        a scan leaves valid records valid
+--     played-tested, scanned-tested     a chain that passes still does after samples and after a scan
+--     play-done, scan-done, found-done  none of `play`, `scan` and the finder then refuses
+--     scan-past                         but a scan of a chip that isn't below N
+-- Assumes nothing.
+use mathlib.Core.Path.{_≡_, refl, ap, ap₂, _∙_}
+use mathlib.Core.Bool.{Bool, true, false}
+use mathlib.Core.List.{List, [], _∷_}
+use Prim.Native.Nat.{ℕ, zero, suc, _≤_, _<_}
+use borrow.Author.Tests.{lt-ltb, le-ltb, le-leb}
+use lib.Dec.{T, leb, leb→le}
+use lib.ListN.{getD, set, replicate}
+use Rattle.base.specs.Pick.{pick}
+use Rattle.base.specs.Refusals.{Told, done, refused, handsBack}
+use Rattle.base.proofs.Picks.{pick-yes}
+use Rattle.base.proofs.Tests.{and-left, and-right, and-both}
+use Rattle.chip.specs.declared.Chip.{Chip}
+use Rattle.chip.specs.Record.{valid, resetChip}
+use Rattle.chip.specs.Scans.{scanned, recorded}
+use Rattle.chip.proofs.Valid.{reset-valid, scanned-valid}
+use Rattle.chain.specs.declared.Chain.{Chain}
+use Rattle.chain.specs.Chain.{most, chipCount, allValid, validChain, testedOf, checkedFrom, played}
+use Rattle.chain.specs.Finder.{foundOf, reported, lookedOf}
+use Rattle.chain.specs.Entries.{after, chipAt, withChip, startChain, startedOf, playedOf, scannedOf}
+use Rattle.chain.specs.Shift.{AllBelow}
+use Rattle.chain.proofs.Laws.{played-valid}
+use Rattle.chain.proofs.Tested.{tested-done}
+
+-- ---- the tests
+
+-- two tests passed are no refusal
+both-pass : (a b : Bool) → T a → T b → _≡_ {A = Told (Unit {0})} (pick a (pick b (done tt) (refused 12 0)) (refused 3 0)) (done tt)
+both-pass true true t u = refl
+both-pass true false t u = absurd u
+both-pass false b t u = absurd t
+
+pub tests-pass : (n : ℕ) (ch : Chain) → T (chipCount n) → T (validChain n ch) → testedOf n ch ≡ done tt
+unfolding testedOf
+tests-pass n ch = both-pass (chipCount n) (validChain n ch)
+
+-- ---- the start
+
+resets-valid : (n many : ℕ) → T (allValid n (replicate many resetChip))
+unfolding allValid
+resets-valid zero many = tt
+resets-valid (suc n) zero = tt
+resets-valid (suc n) (suc many) = and-both (valid resetChip) (allValid n (replicate many resetChip)) reset-valid (resets-valid n many)
+
+pub start-valid : (n : ℕ) → T (validChain n startChain)
+start-valid n = and-both (allValid n (replicate most resetChip)) true (resets-valid n most) tt
+
+pub start-tested : (n : ℕ) → T (chipCount n) → testedOf n startChain ≡ done tt
+start-tested n count = tests-pass n startChain count (start-valid n)
+
+pub start-done : (n : ℕ) → T (chipCount n) → startedOf n ≡ record { state = startChain; told = done tt }
+unfolding startedOf
+start-done n count = pick-yes _ _ (passes (chipCount n) count)
+  where
+    passes : (b : Bool) → T b → b ≡ true
+    passes true t = refl
+    passes false t = absurd t
+
+-- ---- samples and scans
+
+-- a record that is valid if the one before it was
+valid-set : (n : ℕ) (cs : List Chip) (j : ℕ) (x d : Chip) → (T (valid (getD cs j d)) → T (valid x)) → T (allValid n cs) → T (allValid n (set cs j x))
+unfolding allValid
+valid-set zero cs j x d f v = v
+valid-set (suc n) [] j x d f v = v
+valid-set (suc n) (c ∷ cs) zero x d f v =
+    and-both (valid x) (allValid n cs) (f (and-left (valid c) (allValid n cs) v)) (and-right (valid c) (allValid n cs) v)
+valid-set (suc n) (c ∷ cs) (suc j) x d f v =
+    and-both (valid c) (allValid n (set cs j x)) (and-left (valid c) (allValid n cs) v)
+    (valid-set n cs j x d f (and-right (valid c) (allValid n cs) v))
+
+pub scan-valid : (n j : ℕ) (bytes : List ℕ) (ch : Chain) → T (validChain n ch) → T (validChain n (withChip j (scanned bytes (chipAt j ch)) ch))
+scan-valid n j bytes ch v =
+    and-both (allValid n (set (ch .chips) j (scanned bytes (chipAt j ch)))) (leb (ch .levels) 7)
+    (valid-set n (ch .chips) j (scanned bytes (chipAt j ch)) resetChip (scanned-valid bytes (chipAt j ch))
+    (and-left (allValid n (ch .chips)) (leb (ch .levels) 7) v))
+    (and-right (allValid n (ch .chips)) (leb (ch .levels) 7) v)
+
+module _ (n : ℕ) (ch : Chain) (passed : testedOf n ch ≡ done tt) where
+  pub played-tested : (ss : List ℕ) → AllBelow 8 ss → testedOf n (played n ss ch) ≡ done tt
+  played-tested ss below =
+      let p = tested-done n ch passed in
+      tests-pass n (played n ss ch) (p .0) (played-valid n ss ch below (p .1))
+
+  pub scanned-tested : (j : ℕ) (bytes : List ℕ) → testedOf n (withChip j (scanned bytes (chipAt j ch)) ch) ≡ done tt
+  scanned-tested j bytes =
+      let p = tested-done n ch passed in
+      tests-pass n (withChip j (scanned bytes (chipAt j ch)) ch) (p .0) (scan-valid n j bytes ch (p .1))
+
+  -- ---- the entries
+
+  pub play-done : (ss : List ℕ) → checkedFrom 0 ss ≡ done tt → playedOf n ch ss ≡ record { state = played n ss ch; told = done tt }
+  unfolding playedOf
+  play-done ss fine = ap₂ (λ t u. after t ch (after u ch (record { state = played n ss ch; told = done tt }))) passed fine
+
+  pub scan-done : (j : ℕ) (bytes : List ℕ) → j < n
+      → scannedOf n ch j bytes ≡ record { state = withChip j (scanned bytes (chipAt j ch)) ch; told = done (recorded bytes (chipAt j ch)) }
+  unfolding scannedOf
+  scan-done j bytes h =
+      ap₂ (λ t b. after t ch (pick b (record { state = withChip j (scanned bytes (chipAt j ch)) ch; told = done (recorded bytes (chipAt j ch)) }) (handsBack ch 2 0)))
+      passed (lt-ltb j n h)
+
+  pub scan-past : (j : ℕ) (bytes : List ℕ) → n ≤ j → scannedOf n ch j bytes ≡ handsBack ch 2 0
+  unfolding scannedOf
+  scan-past j bytes h =
+      ap₂ (λ t b. after t ch (pick b (record { state = withChip j (scanned bytes (chipAt j ch)) ch; told = done (recorded bytes (chipAt j ch)) }) (handsBack ch 2 0)))
+      passed (le-ltb j n h)
+
+  pub found-done : (ss : List ℕ) → checkedFrom 0 ss ≡ done tt → foundOf (ch .levels) ss ≡ record { state = lookedOf (ch .levels) ss; told = done tt }
+  unfolding foundOf
+  found-done ss fine =
+      pick-yes _ _ (le-leb (ch .levels) 7 (leb→le (ch .levels) 7 (and-right (allValid n (ch .chips)) (leb (ch .levels) 7) (tested-done n ch passed .1))))
+      ∙ ap (λ t. reported t (lookedOf (ch .levels) ss)) fine

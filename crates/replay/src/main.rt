@@ -1,0 +1,8 @@
+// Replays a capture text: standard input to standard output. All the work is in the library `capture`.
+fn main() {
+    let mut text = [0u8; 65537];
+    let mut out = [0u8; 1179661];
+    let got = io::read_full(0, &mut text);
+    let n = capture::replay(&text[..got], &mut out);
+    io::write_all(1, &out[..n]);
+}
