@@ -8,6 +8,7 @@
 --     body-scanned       so it does for a scan
 --     recorded-body      so does what a scan records
 --     loaded-register    a LOAD rise leaves the register as it is
+--     obeyed-register    so the register after a LOAD rise is the word that the rise obeyed
 --     loaded-latch       and the latch
 --     keyb-scanned       a scan leaves the system bits, KEYB among them, as they are
 --     line-scanned       a scan leaves the line parts as they are
@@ -143,6 +144,12 @@ loaded-held c = word-held (decodedOf (c .line .register)) c
 
 pub loaded-register : (c : Chip) → loaded c .line .register ≡ c .line .register
 loaded-register c = ap (λ (h : Held). h .register) (loaded-held c)
+
+-- so the register after a LOAD rise is the word that the rise obeyed
+pub obeyed-register : (was now : ℕ) (d : Bool) (c : Chip) → loadRises was now ≡ true
+    → stepped was now d c .line .register ≡ clocked was now d (c .line) .register
+obeyed-register was now d c e =
+    ap (λ (x : Chip). x .line .register) (stepped-load was now d c e) ∙ loaded-register (withLine (clocked was now d (c .line)) c)
 
 pub loaded-latch : (c : Chip) → loaded c .line .latch ≡ c .line .latch
 loaded-latch c = ap (λ (h : Held). h .latch) (loaded-held c)
