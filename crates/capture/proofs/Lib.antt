@@ -8,4 +8,5 @@ pub mod Walks
 pub mod Firsts
 pub mod Room
 pub mod Law
+pub mod Kept
 pub mod Unique

@@ -6,3 +6,4 @@ pub mod Shift
 pub mod Clocks
 pub mod Unique
 pub mod Passed
+pub mod Still

@@ -1,5 +1,6 @@
 -- What one event does to each chip of a chain, and to its line parts.
 --     part-at            lists of chips alike in a part are alike in it at each place
+--     obeys-at           at a LOAD rise each chip obeys the word that is then in its register
 --     sample-body        at a LOAD rise that finds a row in the registers each chip obeys its word, at any other sample none does
 --     sample-keypad      and if the row is fit, the keypad stays off before the last chip
 --     scan-body          a scan is a step of the chip that it names, and of no other
@@ -95,6 +96,12 @@ obeys was now e b c =
     x : Chip
     x = withLine (clocked was now b (c .line)) c
 
+-- so does each chip of a chain
+pub obeys-at : (n s : ℕ) (ch : Chain) → loadRises (ch .levels) s ≡ true → (k : ℕ) → k < n → k < length (ch .chips)
+    → bodyOf (chipAt k (steppedChain n s ch)) ≡ bodyOf (appliedWord (decodedOf (chipAt k (steppedChain n s ch) .line .register)) (chipAt k ch))
+obeys-at n s ch e k h l =
+    row-at (λ c x. bodyOf x ≡ bodyOf (appliedWord (decodedOf (x .line .register)) c)) (ch .levels) s (obeys (ch .levels) s e) n k (din s) (ch .chips) resetChip h l
+
 -- a fit word is obeyed as its command
 fit-obeyed : (n k : ℕ) (o : Told Command) (c : Chip) → Fit n k o → appliedWord o c ≡ after (commandOf o) c
 fit-obeyed n k (done command) c f = refl
@@ -116,7 +123,7 @@ module _ (n s : ℕ) (ch : Chain) (fits : n ≤ length (ch .chips)) (lines : Lin
   sample-body true (row ∷ rows) e f a k h =
       let l : k < length (ch .chips) = lt-of-lt-of-le h fits in
       let m : k < length (steppedChain n s ch .chips) = subst (λ x. k < x) (sym (row-length n (ch .levels) s (din s) (ch .chips))) l in
-      row-at (λ c x. bodyOf x ≡ bodyOf (appliedWord (decodedOf (x .line .register)) c)) (ch .levels) s (obeys (ch .levels) s e) n k (din s) (ch .chips) resetChip h l
+      obeys-at n s ch e k h l
       ∙ ap (λ r. bodyOf (appliedWord (decodedOf r) (chipAt k ch)))
       (sym (register-at n k (steppedChain n s ch .chips) resetChip h m) ∙ ap (wordFor k) (sym a))
       ∙ ap bodyOf (fit-obeyed n k (decodedOf (wordFor k row)) (chipAt k ch) (f .0 .words k h))

@@ -6,4 +6,5 @@ pub mod Demand3
 pub mod Corollaries
 pub mod Entries
 pub mod Calls
+pub mod Answers
 pub mod Cases

@@ -1,0 +1,8 @@
+// Replays a capture text and writes the segments lit: standard input to standard output. All the work is in the library `capture`.
+fn main() {
+    let mut text = [0u8; 65537];
+    let mut out = [0u8; 2752525];
+    let got = io::read_full(0, &mut text);
+    let n = capture::screen(&text[..got], &mut out);
+    io::write_all(1, &out[..n]);
+}
