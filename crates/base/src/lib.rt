@@ -7,7 +7,7 @@ ghost use Rattle.base.specs.Bits.{cut, digit};
 pub enum Refusal {
     // 1: a sample is above 7; the lowest such place.
     Sample(u64),
-    // 2: a scan's chip is not below N.
+    // 2: a scan's chip is not below N; so is a chip that is named for a command or to be looked at.
     ScanChip,
     // 3: N is not 1 to 8.
     ChipCount,
@@ -23,7 +23,7 @@ pub enum Refusal {
     Room,
     // 9: a command field is out of range.
     Field,
-    // 10: a line isn't of the form; its number from 1.
+    // 10: a line isn't of the form; its number from 1. (A text's replay writes 10 and 11 as lines of its output.)
     Line(u64),
     // 11: the text is longer than 65,536 bytes.
     Text,

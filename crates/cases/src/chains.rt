@@ -5,6 +5,7 @@ use crate::text::put_byte;
 use base::Refusal;
 use base::Verdict;
 use chain::Chain;
+use chip::ScanAnswer;
 use word::Command;
 use word::System;
 
@@ -16,6 +17,7 @@ pub fn run() {
     put(b"start 0 chips: ");
     answered(chain::start(0));
     blocks();
+    records();
     readout();
     finder();
 }
@@ -79,6 +81,29 @@ fn blocks() {
     answered(chain::one::apply(8, ch, 8, Command::NoOperation));
     put(b"a command out of range: ");
     answered(chain::one::apply(8, ch, 8, Command::BarLevel(65)));
+}
+
+// What a scan answers, as a verdict.
+fn scan_verdict(s: chain::one::Scanned) -> Verdict {
+    let answer = s.answer;
+    match answer {
+        ScanAnswer::Took(_) => Verdict::Done,
+        ScanAnswer::Refused(e) => Verdict::Refused(e),
+    }
+}
+
+// A scan of a chip that isn't there, and a record that no chip can hold, below N and from N on.
+fn records() {
+    let eight = chain::start(8);
+    let mut ch = eight.chain;
+    put(b"a scan of chip 8 of 8: ");
+    verdict(scan_verdict(chain::one::scan(8, ch, 8, [0; 8])));
+    line_end();
+    ch.chips[7].settings.custom = 128;
+    put(b"custom 128 in chip 7 of 8: ");
+    answered(chain::play::play(8, ch, b"\x07"));
+    put(b"custom 128 in chip 7, 7 chips used: ");
+    answered(chain::play::play(7, ch, b"\x07"));
 }
 
 // A chain of one chip with the keypad on and 63H held.

@@ -30,7 +30,7 @@ allValid (suc n) (c ∷ cs) = valid c && allValid n cs
 abbrev pub validChain : ℕ → Chain → Bool
 validChain n ch = allValid n (ch .chips) && leb (ch .levels) 7
 
--- the tests that come first in every entry: refusals 3, 12
+-- the tests that come first in every entry that is given a chain: refusals 3, 12
 unfoldable pub testedOf : ℕ → Chain → Told (Unit {0})
 testedOf n ch = pick (chipCount n) (pick (validChain n ch) (done tt) (refused 12 0)) (refused 3 0)
 

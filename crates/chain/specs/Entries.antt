@@ -29,7 +29,7 @@ use Rattle.chain.specs.Chain.{most, chipCount, checkedFrom, testedOf, pl
 abbrev pub handed : Handed → Outcome Chain (Unit {0})
 handed r = record { state = r .chain; told = verdictTells (r .answer) }
 
--- what a test that was passed leads to; one that was not hands back what was given
+-- what a test that was passed leads to; one that was not hands back what is given for that: the state, or zeros
 abbrev pub after : {S A : Type 0} → Told (Unit {0}) → S → Outcome S A → Outcome S A
 after (done u) given next = next
 after (refused number place) given next = handsBack given number place

@@ -118,7 +118,7 @@ heldRow was now d (h ∷ hs) = pick (dclkFalls was now) (fallen h) (pick (dclkRi
 
 -- ---- the chain before and after a stretch of clocks
 
--- no clock edge changes anything but line parts, on any chip of the list
+-- no clock edge changes anything but line parts, on any chip of the list; of CH452s this asks nothing (`any-lines` of `demands`)
 abbrev pub LinesOnly : List Chip → Type 0
 LinesOnly [] = Unit {0}
 LinesOnly (c ∷ cs) = ClocksMoveLinesOnly c × LinesOnly cs

@@ -1,5 +1,6 @@
 // A chain of N chips, N from 1 to 8: start it, play a block of samples, scan a chip, look at it, and find the next LOAD rise.
-// Every entry tests everything first, and hands the record back as it was where it refuses. Records from N on are never changed.
+// Every entry tests everything first; where it refuses, it hands back the record as it was, or zeros where it answers no record.
+// Records from N on are never changed.
 use base::Refusal;
 use base::Verdict;
 use chip::Chip;
@@ -60,7 +61,7 @@ fn zero_chain() -> Chain
     }
 }
 
-// N reset chips with zero registers and latches of 1, the wires idle: refusal 3.
+// Reset chips with zero registers and latches of 1, the wires idle: refusal 3. All places of the record are set, and N are used.
 pub fn start(n: usize) -> Handed
     ensures { λ r. ⌜ E.handed r ≡ E.startedOf n ⌝ }
 {

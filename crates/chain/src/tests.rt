@@ -50,7 +50,7 @@ pub fn checked(samples: &[u8]) -> Verdict
     Verdict::Done
 }
 
-// The tests that come first in every entry on a chain: refusals 3, 12.
+// The tests that come first in every entry that is given a chain: refusals 3, 12.
 pub fn tested(n: usize, chain: Chain) -> Verdict
     ensures { λ r. ⌜ verdictTells r ≡ C.testedOf n chain ⌝ }
 {

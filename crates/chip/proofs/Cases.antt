@@ -120,7 +120,7 @@ chip-cases =
     also at-load 0x140 (done (BarLevel 64)) refl digitsOf
     also at-load 0x141 unlisted refl digitsOf
     -- P7, P8
-    also at-load 0x404 unlisted refl systemOf
+    also at-load 0x404 unlisted refl (λ (d : Chip). d)
     also at-load 0x403 (done (SystemParameters (record { intm = false; sspd = false; dplr = false; keyb = true; disp = true }))) refl systemOf
     also at-load 0x590 (done (DisplayParameters (record { mode = true; limit = 1 }))) refl (λ (d : Chip). d .settings .display)
     -- P9

@@ -8,7 +8,7 @@ use lib.Dec.{T}
 use lib.ListN.{set}
 use Rattle.chip.specs.declared.Chip.{Chip}
 use Rattle.chip.specs.Record.{valid, resetSettings, resetKeys, blank}
-use Rattle.chip.specs.Commands.{segment, dout}
+use Rattle.chip.specs.Commands.{segment, dout, woken}
 use Rattle.chip.specs.Edges.{din, idle, loaded, stepped}
 use Rattle.chip.specs.Segments.{bcd}
 use Rattle.chip.specs.Scans.{scanned}
@@ -93,8 +93,8 @@ chipCases =
     -- P6: 140H gives all FFH; 141H changes no digit
     ∷ AtLoad 0x140 (λ c d. d .digits ≡ 0xFF ∷ 0xFF ∷ 0xFF ∷ 0xFF ∷ 0xFF ∷ 0xFF ∷ 0xFF ∷ 0xFF ∷ [])
     ∷ AtLoad 0x141 (λ c d. d .digits ≡ c .digits)
-    -- P7: 404H only wakes the chip; 403H turns KEYB and DISP on
-    ∷ AtLoad 0x404 (λ c d. d .settings .system ≡ c .settings .system)
+    -- P7: 404H, unlisted, only wakes the chip and ends a readout; 403H turns KEYB and DISP on
+    ∷ AtLoad 0x404 (λ c d. d ≡ woken c)
     ∷ AtLoad 0x403 (λ c d. d .settings .system ≡ record { intm = false; sspd = false; dplr = false; keyb = true; disp = true })
     -- P8: 590H is BCD with limit 1
     ∷ AtLoad 0x590 (λ c d. d .settings .display ≡ record { mode = true; limit = 1 })

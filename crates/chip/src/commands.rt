@@ -132,7 +132,7 @@ fn with_digit(dig: u8, byte: u8, digits: [u8; 8]) -> [u8; 8]
     ds
 }
 
-// Everything but the register and the latch as at the start.
+// Everything as at the start but for the register, the latch, and the code of a readout that is over.
 fn reset(chip: Chip) -> Chip
     ensures { λ r. ⌜ r ≡ C.reset chip ⌝ }
 {

@@ -1,6 +1,6 @@
 // One CH452 chip: its record, the edges of its wires, what commands do, the segments lit and key scans. The public entries of
-// this file count as N = 1 of document 01: each tests its chip first and hands it back as it was where it refuses. The modules
-// below them answer for every record, valid or not.
+// this file count as N = 1 of document 01: each tests its chip first; where it refuses, it hands the chip back as it was, or no
+// segments. The modules below them answer for every record, valid or not.
 use base::Refusal;
 use base::Verdict;
 use word::Command;

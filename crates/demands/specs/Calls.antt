@@ -1,4 +1,4 @@
--- Document 01, demand 3, of buffers and calls: a list of words written by the writer's `write`, and its samples played by a
+-- The third demand, of buffers and calls: a list of words written by the writer's `write`, and its samples played by a
 -- chain's `play` block by block, with calls of `scan` between. Of the three entries nothing is used but their contracts.
 --     Call, eventsOf, blocksOf     a call of `play` or `scan`; the events of calls, and the samples of their blocks
 --     Ran, AllDone                 results of calls as the contracts allow them; no call among them was refused

@@ -1,4 +1,4 @@
--- Document 01, demand 3: "A chain of 1 to 8 chips in any valid state, DCLK and LOAD high, the keypad enabled on no chip but the
+-- The third of the three demands: "A chain of 1 to 8 chips in any valid state, DCLK and LOAD high, the keypad enabled on no chip but the
 -- last; any rows of commands that the writer accepts; the written samples played, with key scans falling between them anywhere.
 -- Each chip's settings, display and key record end as if its own commands, each once and in row order, and its own scans had
 -- been applied directly, a command standing where its row's LOAD rise stands. At no other sample do they change."

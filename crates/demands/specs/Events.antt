@@ -1,4 +1,4 @@
--- Document 01, demand 3: samples with key scans between them, what they do to a chain, and the commands and scans of one chip
+-- The third demand: samples with key scans between them, what they do to a chain, and the commands and scans of one chip
 -- among them, as if they had been applied to that chip directly.
 -- Assumes nothing.
 use Prim.Native.Nat.{ℕ, _<_}

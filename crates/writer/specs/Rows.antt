@@ -75,11 +75,12 @@ abbrev pub wordTest : ℕ → ℕ → Told Command → Told (Unit {0})
 wordTest n place (refused number at) = refused 6 place
 wordTest n place (done command) = pick (keypadOn command && not (forLast n place)) (refused 7 place) (done tt)
 
--- what the first word that isn't accepted says, from a place on
+-- a test, and the next where it is passed
 abbrev pub orElse : Told (Unit {0}) → Told (Unit {0}) → Told (Unit {0})
 orElse (done u) next = next
 orElse (refused number place) next = refused number place
 
+-- what the first word that isn't accepted says, from a place on
 unfoldable pub wordsFrom : ℕ → ℕ → List ℕ → Told (Unit {0})
 wordsFrom n place [] = done tt
 wordsFrom n place (w ∷ ws) = orElse (wordTest n place (decodedOf w)) (wordsFrom n (suc place) ws)
