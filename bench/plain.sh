@@ -24,7 +24,7 @@ plain() {
     "$rustc" --edition 2021 -O -C codegen-units=1 -C panic=abort --target "$target" --sysroot "$sysroot" \
         -C linker="$tools/bin/ld.lld" -C linker-flavor=ld.lld -L "$work/names" \
         -C link-args="--dynamic-linker /lib64/ld-linux-x86-64.so.2 $lib/Scrt1.o $lib/crti.o $lib/crtbeginS.o" \
-        -C link-args="$lib/libc_nonshared.a $lib/ld-linux-x86-64.so.2 $lib/libgcc.a $lib/crtendS.o $lib/crtn.o" \
+        -C link-args="$lib/libc.so.6 $lib/libc_nonshared.a $lib/ld-linux-x86-64.so.2 $lib/libgcc.a $lib/crtendS.o $lib/crtn.o" \
         -o "$2" "$1"
 }
 

@@ -1,4 +1,5 @@
-// A plain Rust program that replays a capture, written from document 01 alone, to be compared with the proved program.
+// A plain Rust program that replays a capture, written from document 01 alone, to be compared with the proved program. (The lines 30
+// of its second mode are the project's own; what they show is document 01's.)
 //
 //     replay <capture           writes what "Capture text" asks: a line 10 per LOAD rise and chip, a line 11 per recorded key
 //     replay screen <capture    writes the segments lit instead: a line 30 per LOAD rise and chip, and per scan that changes them
