@@ -1,0 +1,121 @@
+#!/usr/bin/env python3
+"""Shows people what the proved programs wrote. This is presentation: nothing here is proved.
+
+    show.py explain REFUSED    each line of `replay`, with its meaning in words beside it
+    show.py picture REFUSED    each line of `screen`, with the chip's digits drawn below it
+
+The lines come on standard input. REFUSED is what to say of a refusal line.
+"""
+import signal
+import sys
+
+# ---- --explain ----
+
+
+def bits(word, *names):
+    """The named bits of a word and their values; the last name is bit 0. A None stands for a bit without a name."""
+    named = zip(names, reversed(range(len(names))))
+    return ", ".join("%s %d" % (name, word >> place & 1) for name, place in named if name)
+
+
+def place_of(address):
+    """The digit and the segment of an address, which is 8 SEG + DIG."""
+    return "DIG%d, SEG%d" % (address % 8, address // 8)
+
+
+def meaning(word):
+    """What a 12-bit word commands: document 01's table, row by row; what no row has is unlisted."""
+    low = word & 0xFF
+    if word < 0x100:
+        return "no operation"
+    if word <= 0x140:
+        return "bar level %d" % low
+    if 0x180 <= word < 0x1C0:
+        return "clear segment %02XH (%s)" % (word - 0x180, place_of(word - 0x180))
+    if 0x1C0 <= word < 0x200:
+        return "set segment %02XH (%s)" % (word - 0x1C0, place_of(word - 0x1C0))
+    if word in WHOLE:
+        return WHOLE[word]
+    if 0x380 <= word < 0x400:
+        return "custom character %02XH" % (word - 0x380)
+    if 0x400 <= word < 0x440 and not word & 4:
+        return "system parameters: " + bits(word, "INTM", "SSPD", "DPLR", None, "KEYB", "DISP")
+    if 0x500 <= word < 0x600 and not word & 15:
+        mode, limit = word >> 7 & 1, word >> 4 & 7
+        return "display parameters: MODE %d (%s), LIMIT %d (%s)" % (
+            mode, "BCD" if mode else "segments", limit, "1 digit" if limit == 1 else "%d digits" % (limit or 8))
+    if 0x600 <= word < 0x700:
+        digits = ["DIG%d" % digit for digit in range(8) if low >> digit & 1]
+        return "blink byte %02XH (%s)" % (low, ", ".join(digits) or "no digit")
+    if 0x700 <= word < 0x800:
+        return "read key"
+    if word >= 0x800:
+        return "load DIG%d with %02XH" % (word >> 8 & 7, low)
+    return "unlisted word %03XH, which only wakes the chip and ends a readout" % word
+
+
+# the commands that are one word each
+WHOLE = {
+    0x201: "reset",
+    0x202: "sleep",
+    0x300: "shift left",
+    0x301: "rotate left",
+    0x302: "shift right",
+    0x303: "rotate right",
+}
+
+
+def explained(line, refused):
+    """A line of `replay` and its meaning."""
+    frame = bytes.fromhex(line)
+    if frame[0] == 0x10:
+        text = "chip %d: %s" % (frame[1], meaning(frame[2] << 8 | frame[3]))
+    elif frame[0] == 0x11:
+        address = frame[2] - 0x40
+        text = "chip %d: key %02XH (%s) recorded, code %02XH" % (frame[1], address, place_of(address), frame[2])
+    else:
+        text = refused
+    return ["%-8s    %s" % (line, text)]
+
+
+# ---- --picture ----
+
+# the segments of a digit as they stand: A above, F and B beside G, E and C beside D, and the point; segment A is bit 0
+ROWS = (
+    ((None, " "), (0, "_"), (None, " "), (None, " ")),
+    ((5, "|"), (6, "_"), (1, "|"), (None, " ")),
+    ((4, "|"), (3, "_"), (2, "|"), (7, ".")),
+)
+MARGIN = "    "
+GAP = " "
+
+
+def drawn_row(row, segments):
+    """One of the three rows of a digit, four columns wide."""
+    return "".join(mark if bit is None or segments >> bit & 1 else " " for bit, mark in row)
+
+
+def drawn(line, refused):
+    """A line of `screen`, and below it the eight digits of its chip, DIG7 leftmost."""
+    frame = bytes.fromhex(line)
+    if frame[0] != 0x30:
+        return ["%s    %s" % (line, refused)]
+    digits = list(enumerate(frame[2:]))[::-1]
+    lines = [MARGIN + GAP.join(drawn_row(row, segments) for _, segments in digits) for row in ROWS]
+    names = MARGIN + GAP.join("DIG%d" % digit for digit, _ in digits)
+    return ["%s    chip %d" % (line, frame[1])] + [each.rstrip() for each in lines] + [names, ""]
+
+
+def main():
+    signal.signal(signal.SIGPIPE, signal.SIG_DFL)
+    show = {"explain": explained, "picture": drawn}[sys.argv[1]]
+    lines = [shown for line in sys.stdin.read().split() for shown in show(line, sys.argv[2])]
+    try:
+        sys.stdout.write("".join(line + "\n" for line in lines))
+        sys.stdout.close()
+    except OSError as error:
+        sys.exit("zhaqsumir: the output can't be written: %s" % error.strerror)
+
+
+if __name__ == "__main__":
+    main()
