@@ -8,3 +8,16 @@ pub mod Entries
 pub mod Calls
 pub mod Answers
 pub mod Cases
+pub mod Conditions
+pub mod ByTable
+pub mod Listed
+pub mod Exact
+pub mod ExactChain
+pub mod ExactWriter
+pub mod Digits
+pub mod LineForms
+pub mod Outputs
+pub mod ExactText
+pub mod TextOutput
+pub mod Readings
+pub mod Named

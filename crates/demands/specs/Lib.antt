@@ -3,3 +3,7 @@ pub mod Demand3
 pub mod Calls
 pub mod Answers
 pub mod Cases
+pub mod Exact
+pub mod Refusals
+pub mod Tables
+pub mod Texts

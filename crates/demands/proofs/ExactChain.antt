@@ -1,0 +1,94 @@
+-- Demand 1, the exact table, of the entries on a chain: specs/Tables.antt.
+--     start-exact, host-sees-exact, play-exact      chain, chain::play
+--     scan-exact, apply-exact, segments-exact       chain::one
+--     find-exact                                    chain::finder
+-- Assumes nothing.
+use mathlib.Core.List.{List, [], _∷_, _++_}
+use Prim.Native.Nat.{ℕ, suc}
+use lib.Dec.{leb, ltb}
+use Rattle.base.specs.Refusals.{Told, done, refused, Outcome}
+use Rattle.word.specs.declared.Command.{Command}
+use Rattle.word.specs.Words.{legal}
+use Rattle.chain.specs.declared.Chain.{Chain}
+use Rattle.chain.specs.Chain.{chipCount, checkedFrom, testedOf}
+use Rattle.chain.specs.Entries.{after, startedOf, playedOf, scannedOf, appliedOf, segmentsOf, seenOf}
+use Rattle.chain.specs.Finder.{reported, lookedOf, foundOf}
+use Rattle.demands.specs.Exact.{Row, each, Exactly}
+use Rattle.demands.specs.Tables.{sampleRow, startTable, chainTable, playTable, oneTable, oneApplyTable, findTable}
+use Rattle.demands.proofs.Conditions.{leb-tests, ltb-tests, count-tests, legal-tests, chain-tests}
+use Rattle.demands.proofs.ByTable.{ByTable, answered, by-table, tested, told-by, stays, goes-on, done-done}
+
+-- ---- the tests that several entries make
+
+-- a test, and what an entry does where it is passed
+told-after : {S A : Type 0} (t : Told (Unit {0})) (given : S) (next : Outcome S A) {rows : List Row} (more : List Row) → ByTable t rows
+    → ByTable (next .told) more
+    → ByTable (after t given next .told) (rows ++ more)
+told-after (done u) given next more y z = goes-on y z
+told-after (refused number place) given next more y z = stays more y
+
+-- a test that is the last
+told-only : {S : Type 0} (t : Told (Unit {0})) (given s : S) {rows : List Row} → ByTable t rows
+    → ByTable {A = Unit {0}} (after t given (record { state = s; told = done tt }) .told) rows
+told-only (done u) given s y = done-done tt y
+told-only (refused number place) given s y = y
+
+first-tests : (n : ℕ) (ch : Chain) → ByTable (testedOf n ch) (chainTable n ch)
+unfolding testedOf
+first-tests n ch = tested _ (count-tests n) (tested (done tt) (chain-tests n ch) (answered tt))
+
+sample-tests : (place : ℕ) (ss : List ℕ) → ByTable (checkedFrom place ss) (each sampleRow place ss)
+unfolding checkedFrom
+sample-tests place [] = answered tt
+sample-tests place (s ∷ ss) = tested (checkedFrom (suc place) ss) (leb-tests s 7) (sample-tests (suc place) ss)
+
+-- ---- the entries
+
+pub start-exact : (n : ℕ) → Exactly (startedOf n .told) (startTable n)
+unfolding startedOf
+start-exact n = by-table (told-by (chipCount n) _ _ (tested (done tt) (count-tests n) (answered tt)))
+
+pub host-sees-exact : (n : ℕ) (ch : Chain) → Exactly (seenOf n ch .told) (chainTable n ch)
+unfolding seenOf
+host-sees-exact n ch = by-table (told-after (testedOf n ch) _ _ [] (first-tests n ch) (answered tt))
+
+pub play-exact : (n : ℕ) (ch : Chain) (samples : List ℕ) → Exactly (playedOf n ch samples .told) (playTable n ch samples)
+unfolding playedOf
+play-exact n ch samples =
+    by-table
+    (told-after (testedOf n ch) _ _ (each sampleRow 0 samples) (first-tests n ch)
+    (told-only (checkedFrom 0 samples) _ _ (sample-tests 0 samples)))
+
+pub scan-exact : (n : ℕ) (ch : Chain) (k : ℕ) (bytes : List ℕ) → Exactly (scannedOf n ch k bytes .told) (oneTable n ch k)
+unfolding scannedOf
+scan-exact n ch k bytes =
+    by-table
+    (told-after (testedOf n ch) _ _ _ (first-tests n ch) (told-by (ltb k n) _ _ (tested _ (ltb-tests k n) (answered tt))))
+
+pub apply-exact : (n : ℕ) (ch : Chain) (k : ℕ) (command : Command) → Exactly (appliedOf n ch k command .told) (oneApplyTable n ch k command)
+unfolding appliedOf
+apply-exact n ch k command =
+    by-table
+    (told-after (testedOf n ch) _ _ _ (first-tests n ch)
+    (told-by (legal command) _ _
+    (tested _ (legal-tests command) (told-by (ltb k n) _ _ (tested (done tt) (ltb-tests k n) (answered tt))))))
+
+pub segments-exact : (n : ℕ) (ch : Chain) (k : ℕ) → Exactly (segmentsOf n ch k .told) (oneTable n ch k)
+unfolding segmentsOf
+segments-exact n ch k =
+    by-table
+    (told-after (testedOf n ch) _ _ _ (first-tests n ch) (told-by (ltb k n) _ _ (tested (done tt) (ltb-tests k n) (answered tt))))
+
+-- ---- the finder
+
+told-reported : (t : Told (Unit {0})) (levels : ℕ) (ss : List ℕ) {rows : List Row} → ByTable t rows
+    → ByTable (reported t (lookedOf levels ss) .told) rows
+told-reported (done u) levels ss y = done-done tt y
+told-reported (refused number place) levels ss y = y
+
+pub find-exact : (levels : ℕ) (samples : List ℕ) → Exactly (foundOf levels samples .told) (findTable levels samples)
+unfolding foundOf
+find-exact levels samples =
+    by-table
+    (told-by (leb levels 7) _ _
+    (tested _ (leb-tests levels 7) (told-reported (checkedFrom 0 samples) levels samples (sample-tests 0 samples))))
