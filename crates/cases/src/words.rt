@@ -10,24 +10,40 @@ use word::Decoded;
 use word::Encoded;
 
 pub fn run() {
+    interface_and_moves();
+    parameters();
+    loads_and_bars();
+    segments_and_sleep();
+}
+
+fn interface_and_moves() {
     show(b"5.5 ", 0b001000000001);
     show(b"5.5 ", 0b011100000000);
     show(b"6.1 ", 0b000000000000);
     show(b"6.1 ", 0b000011111111);
     show(b"6.2 ", 0b001000000001);
     show(b"6.3 ", 0b001100000000);
+}
+
+fn parameters() {
     show(b"6.4 ", 0b001100000010);
     show(b"6.5 ", 0b001100000001);
     show(b"6.6 ", 0b001100000011);
     show(b"6.7 ", 0b010000000001);
     show(b"6.8 ", 0b010101110000);
     show(b"6.8 ", 0b010110000000);
+}
+
+fn loads_and_bars() {
     show(b"6.9 ", 0b011000100001);
     show(b"6.10 ", 0b100001111001);
     show(b"6.10 ", 0b110010001000);
     show(b"6.11 ", 0b011111111111);
     show(b"6.12 ", 0b000100000000);
     show(b"6.12 ", 0b000100010110);
+}
+
+fn segments_and_sleep() {
     show(b"6.12 ", 0b000101000000);
     show(b"6.13 ", 0b000110111010);
     show(b"6.14 ", 0b000111000110);
