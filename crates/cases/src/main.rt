@@ -1,14 +1,10 @@
-// Runs the worked examples of the maker's sheet for the CH452 and document 01's run-only cases, and writes a line for each.
-// What it must write stands in the file `stdout`, which was written from the sheet and from document 01.
-mod chains;
+// Runs the worked examples of the maker's sheet for the CH452, and writes a line for each. What it must write stands in the file
+// `stdout`, which was written from the sheet and from document 01.
 mod chips;
 mod text;
 mod words;
-mod writes;
 
 fn main() {
     words::run();
     chips::run();
-    chains::run();
-    writes::run();
 }
