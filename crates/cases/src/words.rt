@@ -9,14 +9,15 @@ use word::Command;
 use word::Decoded;
 use word::Encoded;
 
+// The sheet's words in its order, by its sections.
 pub fn run() {
-    interface_and_moves();
-    parameters();
-    loads_and_bars();
-    segments_and_sleep();
+    sections_to_6_3();
+    sections_to_6_8();
+    sections_to_6_12();
+    sections_to_6_16();
 }
 
-fn interface_and_moves() {
+fn sections_to_6_3() {
     show(b"5.5 ", 0b001000000001);
     show(b"5.5 ", 0b011100000000);
     show(b"6.1 ", 0b000000000000);
@@ -25,7 +26,7 @@ fn interface_and_moves() {
     show(b"6.3 ", 0b001100000000);
 }
 
-fn parameters() {
+fn sections_to_6_8() {
     show(b"6.4 ", 0b001100000010);
     show(b"6.5 ", 0b001100000001);
     show(b"6.6 ", 0b001100000011);
@@ -34,7 +35,7 @@ fn parameters() {
     show(b"6.8 ", 0b010110000000);
 }
 
-fn loads_and_bars() {
+fn sections_to_6_12() {
     show(b"6.9 ", 0b011000100001);
     show(b"6.10 ", 0b100001111001);
     show(b"6.10 ", 0b110010001000);
@@ -43,7 +44,7 @@ fn loads_and_bars() {
     show(b"6.12 ", 0b000100010110);
 }
 
-fn segments_and_sleep() {
+fn sections_to_6_16() {
     show(b"6.12 ", 0b000101000000);
     show(b"6.13 ", 0b000110111010);
     show(b"6.14 ", 0b000111000110);
