@@ -23,7 +23,7 @@ pub enum Refusal {
     Room,
     // 9: a command field is out of range.
     Field,
-    // 10: a line isn't of the form; its number from 1. (A text's replay writes 10 and 11 as lines of its output.)
+    // 10: a line isn't of the form; its number from 1.
     Line(u64),
     // 11: the text is longer than 65,536 bytes.
     Text,

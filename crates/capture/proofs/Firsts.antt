@@ -2,10 +2,11 @@
 --     first-cut                          a text with no line that was ended gives no chips
 --     other-count, by-three              a frame that holds other than three bytes, and one that holds three
 --     long-out, none-out                 a text too long, and one whose first line gives no chips
+--     Comes                              a text's output and its end
 --     replays-so, piece-room             the output put at the front is what is promised, and has room
 --     replays-counts                     the answer counts bytes at the array's front
 --     begun-more, begun-tested           chips started: the first line was ended, the chain passes the tests
---     begun-out                          and the output is that of the lines after the first
+--     begun-out                          and the output and the end are those of the lines after the first
 -- Assumes nothing.
 use mathlib.Core.Path.{_≡_, refl, ap, ap₂, sym, subst, _∙_}
 use mathlib.Core.Bool.{Bool, true, false, _&&_}
@@ -27,12 +28,13 @@ use Rattle.chain.specs.Entries.{handed, startChain, startedOf}
 use Rattle.chain.proofs.Passed.{start-tested, start-done}
 use Rattle.chain.proofs.Tested.{count-low}
 use Rattle.capture.specs.declared.Report.{Report}
+use Rattle.capture.specs.declared.Replayed.{Replayed}
 use Rattle.capture.specs.declared.read.Frame.{Frame}
 use Rattle.capture.specs.Lines.{Line, ended, cutOff, linesOf, bytesIn}
 use Rattle.capture.specs.Frames.{firstOf}
-use Rattle.capture.specs.Parts.{lineLength, heldIn, heldBy, Holds, firstIn, chipsIn, Puts}
+use Rattle.capture.specs.Parts.{lineLength, heldIn, heldBy, Holds, firstIn, chipsIn, Ends}
 use Rattle.capture.specs.Reports.{refusalLine}
-use Rattle.capture.specs.Replay.{linesOut, afterFirst, allOut, outputOf, Replays}
+use Rattle.capture.specs.Replay.{linesOut, afterFirst, allOut, outputOf, linesEnd, firstEnd, allEnd, endOf, Replays}
 use Rattle.capture.proofs.Lines.{lines-next, lines-last}
 use Rattle.capture.proofs.Walks.{held-same}
 
@@ -117,24 +119,26 @@ first-counted (a ∷ b ∷ []) = refl
 first-counted (a ∷ b ∷ n ∷ []) = all-three (eqb a 0x00) (eqb b 0x01) (chipCount n) n (λ t. t)
 first-counted (a ∷ b ∷ n ∷ c ∷ more) = refl
 
-none-after : (what : Report) (t : Told ℕ) (ls : List Line) → Counted t → chipsIn t ≡ 0 → afterFirst what t ls ≡ refusalLine 10 1
+none-after : (what : Report) (t : Told ℕ) (ls : List Line) → Counted t → chipsIn t ≡ 0
+    → (afterFirst what t ls ≡ refusalLine 10 1) × (firstEnd t ls ≡ refused 10 1)
 unfolding Counted
 none-after what (done n) ls c e = let h = count-low n c in absurd (omega arith)
-none-after what (refused number place) ls c e = ap (λ m. refusalLine m 1) c
+none-after what (refused number place) ls c e = (ap (λ m. refusalLine m 1) c, ap (λ m. refused m 1) c)
 
-none-refused : (what : Report) (ls : List Line) → chipsIn (firstIn ls) ≡ 0 → allOut what ls ≡ refusalLine 10 1
-none-refused what [] e = refl
+none-refused : (what : Report) (ls : List Line) → chipsIn (firstIn ls) ≡ 0 → (allOut what ls ≡ refusalLine 10 1) × (allEnd ls ≡ refused 10 1)
+none-refused what [] e = (refl, refl)
 none-refused what (l ∷ ls) e = none-after what (firstOf (bytesIn l)) ls (first-counted (bytesIn l)) e
 
 some-after : (what : Report) (t : Told ℕ) (ls : List Line) → Counted t → (chipsIn t ≡ 0 → ⊥)
-    → (T (chipCount (chipsIn t))) × (afterFirst what t ls ≡ linesOut what (chipsIn t) 2 startChain ls)
+    → (T (chipCount (chipsIn t))) × (afterFirst what t ls ≡ linesOut what (chipsIn t) 2 startChain ls) × (firstEnd t ls ≡ linesEnd (chipsIn t) 2 ls)
 unfolding Counted
-some-after what (done n) ls c e = (c, refl)
+some-after what (done n) ls c e = (c, refl, refl)
 some-after what (refused number place) ls c e = absurd (e refl)
 
 some-goes-on : (what : Report) (text : List ℕ) → (chipsIn (firstIn (linesOf text)) ≡ 0 → ⊥)
     → (lineLength text < length text) × (T (chipCount (chipsIn (firstIn (linesOf text)))))
     × (allOut what (linesOf text) ≡ linesOut what (chipsIn (firstIn (linesOf text))) 2 startChain (linesOf (drop (lineLength text + 1) text)))
+    × (allEnd (linesOf text) ≡ linesEnd (chipsIn (firstIn (linesOf text))) 2 (linesOf (drop (lineLength text + 1) text)))
 some-goes-on what text ne =
     by-order (length text) (lineLength text) (λ h. absurd (ne (first-cut text h)))
     (λ h.
@@ -145,39 +149,58 @@ some-goes-on what text ne =
       h,
       subst (λ ls. T (chipCount (chipsIn (firstIn ls)))) (sym e) (s .0),
       ap (allOut what) e ∙ s .1 ∙ ap (λ ls. linesOut what (chipsIn (firstIn ls)) 2 startChain rest) (sym e),
+      ap allEnd e ∙ s .2 ∙ ap (λ ls. linesEnd (chipsIn (firstIn ls)) 2 rest) (sym e),
     ))
 
 -- ---- the whole
 
-pub long-out : (what : Report) (text : List ℕ) → 65536 < length text → outputOf what text ≡ refusalLine 11 0
-unfolding outputOf
-long-out what text h = pick-no _ _ (lt-leb (length text) 65536 h)
+-- a text's output and its end
+abbrev pub Comes : Report → List ℕ → List ℕ → Told (Unit {0}) → Type 0
+Comes what text piece end = (outputOf what text ≡ piece) × (endOf text ≡ end)
 
-pub none-out : (what : Report) (text : List ℕ) → length text ≤ 65536 → chipsIn (firstIn (linesOf text)) ≡ 0 → outputOf what text ≡ refusalLine 10 1
-unfolding outputOf
-none-out what text h e = pick-yes _ _ (le-leb (length text) 65536 h) ∙ none-refused what (linesOf text) e
+pub long-out : (what : Report) (text : List ℕ) → 65536 < length text → Comes what text (refusalLine 11 0) (refused 11 0)
+unfolding outputOf endOf
+long-out what text h = let long = lt-leb (length text) 65536 h in (pick-no _ _ long, pick-no _ _ long)
+
+-- a text short enough is what its lines are
+short-out : (what : Report) (text : List ℕ) {piece : List ℕ} {end : Told (Unit {0})} → length text ≤ 65536 → allOut what (linesOf text) ≡ piece
+    → allEnd (linesOf text) ≡ end
+    → Comes what text piece end
+unfolding outputOf endOf
+short-out what text h p e = let short = le-leb (length text) 65536 h in (pick-yes _ _ short ∙ p, pick-yes _ _ short ∙ e)
+
+pub none-out : (what : Report) (text : List ℕ) → length text ≤ 65536 → chipsIn (firstIn (linesOf text)) ≡ 0
+    → Comes what text (refusalLine 10 1) (refused 10 1)
+none-out what text h e = let none = none-refused what (linesOf text) e in short-out what text h (none .0) (none .1)
 
 some-out : (what : Report) (text : List ℕ) → length text ≤ 65536 → (chipsIn (firstIn (linesOf text)) ≡ 0 → ⊥)
-    → outputOf what text ≡ linesOut what (chipsIn (firstIn (linesOf text))) 2 startChain (linesOf (drop (lineLength text + 1) text))
-unfolding outputOf
-some-out what text h ne = pick-yes _ _ (le-leb (length text) 65536 h) ∙ some-goes-on what text ne .2
+    → Comes what text (linesOut what (chipsIn (firstIn (linesOf text))) 2 startChain (linesOf (drop (lineLength text + 1) text)))
+    (linesEnd (chipsIn (firstIn (linesOf text))) 2 (linesOf (drop (lineLength text + 1) text)))
+some-out what text h ne = let s = some-goes-on what text ne in short-out what text h (s .2) (s .3)
 
 -- the output put at the front is what is promised
-pub replays-so : {what : Report} {text : List ℕ} (piece : List ℕ) {out : List ℕ} {r : ℕ} {out′ : List ℕ} → outputOf what text ≡ piece
-    → Puts piece 0 out r out′
+pub replays-so : {what : Report} {text : List ℕ} (piece : List ℕ) {end : Told (Unit {0})} {out : List ℕ} {r : Replayed} {out′ : List ℕ}
+    → Comes what text piece end
+    → Ends piece end 0 out r out′
     → Replays what text out r out′
-replays-so piece {out} {r} e put =
-    let count : r ≡ length piece = omega (arith, put .answer) in
-    record { answer = count ∙ ap length (sym e); bytes = put .bytes ∙ ap (λ p. laid p out) (sym e) }
+replays-so piece {out = out} {r = r} c put =
+    let count : r .bytes ≡ length piece = omega (arith, put .puts .answer) in
+    record {
+      answer = put .answer ∙ sym (c .1);
+      count = count ∙ ap length (sym (c .0));
+      bytes = put .puts .bytes ∙ ap (λ p. laid p out) (sym (c .0));
+    }
 
 -- and has room
 pub piece-room : {whole piece : List ℕ} (room : ℕ) → whole ≡ piece → length whole ≤ room → length piece ≤ room
 piece-room room = subst (λ p. length p ≤ room)
 
 -- the answer counts bytes at the array's front
-pub replays-counts : {what : Report} {text out : List ℕ} {r : ℕ} {out′ : List ℕ} → length (outputOf what text) ≤ length out → Replays what text out r out′ → Counts r out′
+pub replays-counts : {what : Report} {text out : List ℕ} {r : Replayed} {out′ : List ℕ} → length (outputOf what text) ≤ length out
+    → Replays what text out r out′
+    → Counts (r .bytes) out′
 replays-counts {what} {text} {out} {r} {out′} fits p =
-    subst (λ n. Counts n out′) (sym (p .answer)) (subst (λ xs. Counts (length (outputOf what text)) xs) (sym (p .bytes)) (laid-counts out (outputOf what text) fits))
+    subst (λ n. Counts n out′) (sym (p .count)) (subst (λ xs. Counts (length (outputOf what text)) xs) (sym (p .bytes)) (laid-counts out (outputOf what text) fits))
 
 -- ---- a chain started, and the lines after the first
 
@@ -198,8 +221,11 @@ module _ (what : Report) (text : List ℕ) (end n : ℕ) (h : Handed) (fits : le
   pub begun-tested : testedOf n (h .chain) ≡ done tt
   begun-tested = ap (testedOf n) started ∙ start-tested n count
 
-  pub begun-out : outputOf what text ≡ linesOut what n 2 (h .chain) (linesOf (drop (end + 1) text))
+  pub begun-out : Comes what text (linesOut what n 2 (h .chain) (linesOf (drop (end + 1) text))) (linesEnd n 2 (linesOf (drop (end + 1) text)))
   begun-out =
-      some-out what text fits ne
-      ∙ ap₂ (λ m c. linesOut what m 2 c (linesOf (drop (lineLength text + 1) text))) (sym chips) (sym started)
-      ∙ ap (λ m. linesOut what n 2 (h .chain) (linesOf (drop (m + 1) text))) (sym here)
+      let s = some-out what text fits ne in (
+        s .0
+            ∙ ap₂ (λ m c. linesOut what m 2 c (linesOf (drop (lineLength text + 1) text))) (sym chips) (sym started)
+            ∙ ap (λ m. linesOut what n 2 (h .chain) (linesOf (drop (m + 1) text))) (sym here),
+        s .1 ∙ ap₂ (λ m k. linesEnd m 2 (linesOf (drop (k + 1) text))) (sym chips) (sym here),
+      )

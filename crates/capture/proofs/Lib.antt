@@ -8,5 +8,6 @@ pub mod Walks
 pub mod Firsts
 pub mod Room
 pub mod Law
+pub mod Ends
 pub mod Kept
 pub mod Unique

@@ -8,8 +8,9 @@ use lib.Dec.{eqb, leb}
 use lib.ListN.{length, take}
 use Rattle.base.specs.Lent.{placed}
 use Rattle.base.specs.Pick.{pick}
-use Rattle.base.specs.Refusals.{Told, done, refused, Outcome}
+use Rattle.base.specs.Refusals.{Told, done, refused, Outcome, verdictTells}
 use Rattle.chain.specs.declared.Chain.{Chain}
+use Rattle.capture.specs.declared.Replayed.{Replayed}
 use Rattle.capture.specs.declared.read.Frame.{Frame}
 use Rattle.capture.specs.declared.walk.Took.{Took}
 use Rattle.capture.specs.Lines.{Line, newline, ended, bytesIn}
@@ -64,3 +65,8 @@ pub record Takes (o : Outcome Chain (List ℕ)) (at : ℕ) (out : List ℕ) (r :
   pub chain : r .chain ≡ o .state
   pub taken : r .taken ≡ isTaken (o .told)
   pub puts : Puts (outOf (o .told)) at out (r .at) out′
+
+-- a last piece was put at a place, the answer counts the bytes up to its end, and tells how the text ended
+pub record Ends (piece : List ℕ) (end : Told (Unit {0})) (at : ℕ) (out : List ℕ) (r : Replayed) (out′ : List ℕ) : Type 0 where
+  pub puts : Puts piece at out (r .bytes) out′
+  pub answer : verdictTells (r .answer) ≡ end

@@ -5,6 +5,7 @@ mod read;
 mod reports;
 mod walk;
 
+use base::Verdict;
 ghost use Rattle.base.specs.Lent.{Counts};
 ghost use Rattle.capture.specs.Replay.{Replays};
 
@@ -16,19 +17,25 @@ pub enum Report {
     Screen,
 }
 
-// Replays a text: the words obeyed and the keys recorded. The answer is how many bytes stand at the array's front; a text never
-// writes more than 18 bytes for each of its own, and a refusal's 13.
-pub fn replay(text: &[u8], out: &mut [u8; 1179661]) -> usize
+// How a text was replayed: how many bytes stand at the array's front, and whether it was taken to its end or what refused it.
+pub struct Replayed {
+    pub bytes: usize,
+    pub answer: Verdict,
+}
+
+// Replays a text: the words obeyed and the keys recorded. A text never writes more than 18 bytes for each of its own, and a
+// refusal's 13.
+pub fn replay(text: &[u8], out: &mut [u8; 1179661]) -> Replayed
     ensures { λ r. ⌜ Replays Report.Words (now (text .entry)) (now (out .entry)) r (now (out .exit)) ⌝ }
-    ensures { λ r. ⌜ Counts r (now (out .exit)) ⌝ }
+    ensures { λ r. ⌜ Counts (r .bytes) (now (out .exit)) ⌝ }
 {
     walk::whole(Report::Words, text, out)
 }
 
 // Replays a text: the segments lit. At most 42 bytes for each of the text's, and a refusal's 13.
-pub fn screen(text: &[u8], out: &mut [u8; 2752525]) -> usize
+pub fn screen(text: &[u8], out: &mut [u8; 2752525]) -> Replayed
     ensures { λ r. ⌜ Replays Report.Screen (now (text .entry)) (now (out .entry)) r (now (out .exit)) ⌝ }
-    ensures { λ r. ⌜ Counts r (now (out .exit)) ⌝ }
+    ensures { λ r. ⌜ Counts (r .bytes) (now (out .exit)) ⌝ }
 {
     walk::whole(Report::Screen, text, out)
 }

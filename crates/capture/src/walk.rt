@@ -1,9 +1,11 @@
 // The walk over a text: line by line, each tested whole before any of it is played.
+use crate::Replayed;
 use crate::Report;
 use crate::put;
 use crate::read;
 use crate::read::Frame;
 use crate::reports;
+use base::Refusal;
 use base::Verdict;
 use chain::Chain;
 use chain::finder::Rise;
@@ -12,12 +14,13 @@ ghost use mathlib.Core.Path.{_≡_};
 ghost use Prim.Native.Nat.{_+_, _*_, _≤_, _<_};
 ghost use mathlib.Core.List.{List, _∷_};
 ghost use lib.ListN.{length, drop};
-ghost use Rattle.base.specs.Refusals.{done};
+ghost use Rattle.base.specs.Refusals.{done, refused};
 ghost use Rattle.chain.specs.Chain as C;
 ghost use Rattle.capture.specs.Frames as F;
 ghost use Rattle.capture.specs.Lines as L;
 ghost use Rattle.capture.specs.Parts as P;
 ghost use Rattle.capture.specs.Replay as R;
+ghost use Rattle.capture.specs.Reports.{refusalLine};
 
 // A line: the chain after it, whether it was taken, and the place past what it wrote.
 pub(crate) struct Took {
@@ -163,12 +166,23 @@ fn line(what: Report, n: usize, chain: Chain, frame: Frame, out: &mut [u8], at: 
     scan_line(what, n, chain, bytes[1], eight, out, at)
 }
 
+// A line that isn't of the form: refusal 10, written and answered.
+fn wrong_line(number: usize, out: &mut [u8], at: usize) -> Replayed
+    requires { ⌜ at + 13 ≤ length (now out) ⌝ }
+    ensures { λ r. ⌜ P.Ends (refusalLine 10 number) (refused 10 number) at (now (out .entry)) r (now (out .exit)) ⌝ }
+{
+    Replayed {
+        bytes: put::refusal(10, number, out, at),
+        answer: Verdict::Refused(Refusal::Line(number as u64)),
+    }
+}
+
 // The lines from a place of the text on, from line 2.
-fn lines(what: Report, n: usize, chain: Chain, text: &[u8], from: usize, out: &mut [u8]) -> usize
+fn lines(what: Report, n: usize, chain: Chain, text: &[u8], from: usize, out: &mut [u8]) -> Replayed
     requires { ⌜ C.testedOf n chain ≡ done tt ⌝ }
     requires { ⌜ (from ≤ length (now text)) × (length (now text) ≤ 65536) ⌝ }
     requires { ⌜ length (R.linesOut what n 2 chain (L.linesOf (drop from (now text)))) ≤ length (now out) ⌝ }
-    ensures { λ r. ⌜ P.Puts (R.linesOut what n 2 chain (L.linesOf (drop from (now (text .entry))))) 0 (now (out .entry)) r (now (out .exit)) ⌝ }
+    ensures { λ r. ⌜ P.Ends (R.linesOut what n 2 chain (L.linesOf (drop from (now (text .entry))))) (R.linesEnd n 2 (L.linesOf (drop from (now (text .entry))))) 0 (now (out .entry)) r (now (out .exit)) ⌝ }
 {
     let mut next = chain;
     let mut number = 2;
@@ -177,12 +191,12 @@ fn lines(what: Report, n: usize, chain: Chain, text: &[u8], from: usize, out: &m
     while place < text.len() {
         let end = read::line_end(text, place);
         if end >= text.len() {
-            return put::refusal(10, number, out, at);
+            return wrong_line(number, out, at);
         }
         let frame = read::frame_of(&text[place..end]);
         let took = line(what, n, next, frame, out, at);
         if !took.taken {
-            return put::refusal(10, number, out, at);
+            return wrong_line(number, out, at);
         }
         let after = took.chain;
         next = after;
@@ -190,7 +204,10 @@ fn lines(what: Report, n: usize, chain: Chain, text: &[u8], from: usize, out: &m
         place = end + 1;
         number += 1;
     }
-    at
+    Replayed {
+        bytes: at,
+        answer: Verdict::Done,
+    }
 }
 
 // N of the first line, 00 01 N; 0 where it isn't of that form.
@@ -220,17 +237,20 @@ fn first(text: &[u8], end: usize) -> usize
 }
 
 // A whole text.
-pub(crate) fn whole(what: Report, text: &[u8], out: &mut [u8]) -> usize
+pub(crate) fn whole(what: Report, text: &[u8], out: &mut [u8]) -> Replayed
     requires { ⌜ length (R.outputOf what (now text)) ≤ length (now out) ⌝ }
     ensures { λ r. ⌜ R.Replays what (now (text .entry)) (now (out .entry)) r (now (out .exit)) ⌝ }
 {
     if text.len() > 65536 {
-        return put::refusal(11, 0, out, 0);
+        return Replayed {
+            bytes: put::refusal(11, 0, out, 0),
+            answer: Verdict::Refused(Refusal::Text),
+        };
     }
     let end = read::line_end(text, 0);
     let n = first(text, end);
     if n == 0 {
-        return put::refusal(10, 1, out, 0);
+        return wrong_line(1, out, 0);
     }
     let begun = chain::start(n);
     let chain = begun.chain;

@@ -1,19 +1,20 @@
--- What outputs tell: what lines write tells no refusal, and a refusal's line tells it.
+-- What outputs tell: what lines write tells no refusal, and a refusal's line tells it; so an output tells what is answered.
 --     Plain, plain-none, plain-more     an output that tells nothing, whatever follows it
 --     plain-rises, plain-scan           what samples and what a scan write is such
 --     refusal-tells                     the line of a refusal tells its number and line
+--     output-tells                      an output tells how its text ended
 -- Assumes nothing.
 use mathlib.Core.Path.{_≡_, refl, ap, sym, _∙_}
-use mathlib.Core.Bool.{false, _&&_}
+use mathlib.Core.Bool.{Bool, true, false, _&&_}
 use mathlib.Core.List.{List, [], _∷_, _++_, append-assoc, append-nil}
-use Prim.Native.Nat.{ℕ, suc, _+_, _*_, _/_, _%_, _^_, _<_}
+use Prim.Native.Nat.{ℕ, suc, _+_, _*_, _/_, _%_, _^_, _≤_, _<_}
 use native.Mathlib.Nat.{div-div-eq-div-mul}
 use native.Mathlib.Omega.{arith}
-use borrow.Author.Tests.{ne-eqb}
-use lib.Dec.{eqb, ltb}
+use borrow.Author.Tests.{ne-eqb, leb-true}
+use lib.Dec.{eqb, leb, ltb}
 use lib.ListN.{length, take}
 use Rattle.base.specs.Pick.{pick}
-use Rattle.base.specs.Refusals.{done, refused}
+use Rattle.base.specs.Refusals.{Told, done, refused}
 use Rattle.base.proofs.Picks.{pick-no, pick-cases}
 use Rattle.chip.specs.declared.Chip.{Chip}
 use Rattle.chip.specs.declared.Recorded.{Recorded}
@@ -22,14 +23,17 @@ use Rattle.chip.specs.Edges.{loadRises}
 use Rattle.chip.specs.Scans.{scanned, recorded}
 use Rattle.chip.specs.Segments.{litOf}
 use Rattle.chain.specs.declared.Chain.{Chain}
-use Rattle.chain.specs.Chain.{steppedChain}
+use Rattle.chain.specs.Chain.{steppedChain, played}
+use Rattle.chain.specs.Entries.{chipAt, startChain}
 use Rattle.capture.specs.declared.Report.{Report}
 use Rattle.capture.specs.declared.Report.the-variants.{Words, Screen}
-use Rattle.capture.specs.Lines.{Line, ended, newline, before, linesOf, bytesIn, bytesOf, allDigits, digitOf, digitFor, digitsFor, lineFor, fourBytes}
+use Rattle.capture.specs.Lines.{Line, ended, cutOff, newline, before, linesOf, bytesIn, bytesOf, allDigits, digitOf, digitFor, digitsFor, lineFor, fourBytes}
+use Rattle.capture.specs.Frames.{Form, samples, scan, other, firstOf, formOf}
 use Rattle.capture.specs.Reports.{screenLine, riseLine, riseLines, atRise, keyLine, sameBytes, atScan, refusalLine}
-use Rattle.capture.specs.Replay.{risesIn}
+use Rattle.capture.specs.Replay.{risesIn, taken, andThen, linesOut, afterFirst, allOut, outputOf, lineEnd, linesEnd, firstEnd, allEnd, endOf}
 use Rattle.demands.specs.Texts.{lineTells, outputTells}
 use Rattle.demands.proofs.Digits.{in-written}
+use Rattle.demands.proofs.LineForms.{FirstView, gives, wrong, first-view}
 
 -- ---- a written line is one line
 
@@ -144,3 +148,58 @@ refusal-tells number line h few =
     ∙ ap lineTells
     (in-written bytes (omega arith, (h, (omega arith, (omega arith, (omega arith, (omega arith, tt)))))))
     ∙ ap (refused number) (four-back line few)
+
+-- ---- how many lines
+
+before-length : (ch : ℕ) (ls : List Line) → length (before ch ls) ≤ suc (length ls)
+before-length ch [] = omega arith
+before-length ch (ended chars ∷ ls) = omega arith
+before-length ch (cutOff chars ∷ ls) = omega arith
+
+lines-length : (text : List ℕ) → length (linesOf text) ≤ length text
+unfolding linesOf
+lines-length [] = omega arith
+lines-length (ch ∷ text) =
+    let more = lines-length text in
+    pick-cases (λ ls. length ls ≤ suc (length text)) (eqb ch newline) {x = ended [] ∷ linesOf text} {y = before ch (linesOf text)} (λ e. omega arith)
+    (λ e. omega (arith, before-length ch (linesOf text)))
+
+-- ---- a whole output
+
+-- what an output tells
+abbrev tells : List ℕ → Told (Unit {0})
+tells out = outputTells (linesOf out)
+
+module _ (what : Report) where
+  line-tells : (n line : ℕ) (ch : Chain) (ls : List Line) (form : Form) → line < 4294967296
+      → ((next : Chain) → tells (linesOut what n (suc line) next ls) ≡ linesEnd n (suc line) ls)
+      → tells (andThen (taken what n ch form .told) line (linesOut what n (suc line) (taken what n ch form .state) ls))
+      ≡ lineEnd form line (linesEnd n (suc line) ls)
+  line-tells n line ch ls (samples ss) few more = plain-rises what n ss ch _ ∙ more (played n ss ch)
+  line-tells n line ch ls (scan k bytes) few more = plain-scan what k bytes (chipAt k ch) _ ∙ more _
+  line-tells n line ch ls other few more = refusal-tells 10 line (omega arith) few
+
+  lines-tell : (n line : ℕ) (ch : Chain) (ls : List Line) → line + length ls < 4294967296 → tells (linesOut what n line ch ls) ≡ linesEnd n line ls
+  unfolding linesOf linesOut linesEnd
+  lines-tell n line ch [] few = refl
+  lines-tell n line ch (l ∷ ls) few =
+      line-tells n line ch ls (formOf n (bytesIn l)) (omega arith) (λ next. lines-tell n (suc line) next ls (omega arith))
+
+  first-tells : (first : Line) (ls : List Line) (t : Told ℕ) → FirstView first t → length ls ≤ 65536 → tells (afterFirst what t ls) ≡ firstEnd t ls
+  first-tells first ls t (gives n gave) few = lines-tell n 2 startChain ls (omega arith)
+  first-tells first ls t (wrong f) few = refusal-tells 10 1 (omega arith) (omega arith)
+
+  all-tell : (ls : List Line) → length ls ≤ 65536 → tells (allOut what ls) ≡ allEnd ls
+  all-tell [] few = refusal-tells 10 1 (omega arith) (omega arith)
+  all-tell (first ∷ ls) few = first-tells first ls (firstOf (bytesIn first)) (first-view first) (omega arith)
+
+  pub output-tells : (text : List ℕ) → outputTells (linesOf (outputOf what text)) ≡ endOf text
+  unfolding outputOf endOf
+  output-tells text = go (leb (length text) 65536) refl
+    where
+      go : (t : Bool) → leb (length text) 65536 ≡ t
+          → tells (pick t (allOut what (linesOf text)) (refusalLine 11 0)) ≡ pick t (allEnd (linesOf text)) (refused 11 0)
+      go true e =
+          let few : length text ≤ 65536 = leb-true (length text) 65536 e in
+          all-tell (linesOf text) (omega (arith, lines-length text))
+      go false e = refusal-tells 11 0 (omega arith) (omega arith)

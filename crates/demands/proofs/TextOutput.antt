@@ -34,7 +34,7 @@ module _ (what : Report) (first : Line) (n : ℕ) (gave : FirstLine first n) whe
   form-taken : (ch : Chain) (l : Line) (form : Form) → OtherView n l form → ((OtherLine first l → ⊥) → ⊥) → IsDone (taken what n ch form .told)
   form-taken ch l form (as-samples ss y) f = tt
   form-taken ch l form (as-scan k bytes y) f = tt
-  form-taken ch l form (as-none g) f = f (not-other what first n gave l g)
+  form-taken ch l form (as-none g) f = f (not-other first n gave l g)
 
   -- a line of no form is refused
   form-refused : (ch : Chain) (l : Line) (form : Form) → OtherView n l form → (OtherLine first l → ⊥) → taken what n ch form .told ≡ refused 10 0

@@ -1,4 +1,5 @@
--- `capture::walk::lines` meets its contract. The invariant is `Walks`: what is left of the text writes what is left of the output.
+-- `capture::walk::lines` meets its contract. The invariant is `Walks`: what is left of the text writes what is left of the output,
+-- and ends as the whole does.
 -- Assumes nothing.
 use mathlib.Core.Path.{_≡_, refl, ap, sym, _∙_}
 use Prim.Native.Nat.{_+_, _-_, _≤_}
@@ -6,7 +7,7 @@ use native.Mathlib.Omega.{arith}
 use borrow.Author.Tests.{not-true, not-false}
 use lib.ListN.{length, drop}
 use Rattle.capture.specs.Lines.{linesOf}
-use Rattle.capture.specs.Replay.{linesOut}
+use Rattle.capture.specs.Replay.{linesOut, linesEnd}
 use Rattle.capture.proofs.Walks.{Walks, walks-start, walks-over, cut-room, walks-cut, walks-room, walks-refusal-room, walks-refused, walks-more}
 use borrow.Author.Needs.{needs}
 use Rattle.capture.proofs.walk.lines.Statement.{statement}
@@ -14,7 +15,7 @@ use Rattle.capture.proofs.walk.lines.Tie as tie
 
 abbrev Inv-loop : tie.InvT-loop
 Inv-loop what n text from out₀ next₀ number₀ at₀ place₀ out next number at place =
-    Walks what n text (linesOut what n 2 next₀ (linesOf (drop from text))) out₀ out next number at place
+    Walks what n text (linesOut what n 2 next₀ (linesOf (drop from text))) (linesEnd n 2 (linesOf (drop from text))) out₀ out next number at place
 
 abbrev μ-loop : tie.MeasureT-loop
 μ-loop what n text from out₀ next₀ number₀ at₀ place₀ out next number at place = length text - place
@@ -25,8 +26,8 @@ loop-holds c =
     let p = c .before .before .pre in
     walks-start (a .what) (a .n) (a .text .now) (a .out .now) (a .chain) (a .from) (p .0) (p .1 .0 .0) (p .1 .0 .1) (p .1 .1)
 
-refusal-requires : tie.Need-refusal-requires Inv-loop μ-loop
-refusal-requires c κs =
+wrong-line-requires : tie.Need-wrong-line-requires Inv-loop μ-loop
+wrong-line-requires c κs =
     let l = c .before .before .before .before .loop in
     let e = c .before .before .line-end in
     cut-room (l .inv) (e .result) (e .ensures) (c .before .before .before .loop-test .taken) (c .before .if1 .taken)
@@ -39,7 +40,7 @@ returns c =
     let l = c .before .before .before .before .before .before .before .loop in
     let e = c .before .before .before .before .before .line-end in
     walks-cut (l .inv) (e .result) (e .ensures) (c .before .before .before .before .before .before .loop-test .taken)
-    (c .before .before .before .before .if1 .taken) (c .before .before .refusal .ensures)
+    (c .before .before .before .before .if1 .taken) (c .before .before .wrong-line .ensures)
 
 sub-frame-of : tie.Need-sub-frame-of Inv-loop μ-loop
 sub-frame-of c = omega (arith, c .before .line-end .ensures)
@@ -57,8 +58,8 @@ line-requires c κs =
     let f = c .before .frame-of in
     (l .inv .tested, (omega (arith, f .ensures .count, f .ensures .room), walks-room (l .inv) (e .result) (e .ensures) (c .before .before .before .if1 .left) (f .result) (f .ensures)))
 
-refusal-requires-2 : tie.Need-refusal-requires-2 Inv-loop μ-loop
-refusal-requires-2 c κs =
+wrong-line-requires-2 : tie.Need-wrong-line-requires-2 Inv-loop μ-loop
+wrong-line-requires-2 c κs =
     let l = c .before .before .before .before .before .before .before .before .before .before .before .before .loop in
     let e = c .before .before .before .before .before .before .before .before .before .before .line-end in
     let f = c .before .before .before .before .before .before .before .frame-of in
@@ -76,7 +77,7 @@ returns-2 c =
     let f = c .before .before .before .before .before .before .before .before .before .before .frame-of in
     let t = c .before .before .before .before .before .before .before .before .line in
     walks-refused (l .inv) (e .result) (e .ensures) (c .before .before .before .before .before .before .before .before .before .before .before .before .if1 .left) (f .result) (f .ensures)
-    (t .result) (t .ensures) (not-true (t .result .taken) (c .before .before .before .before .if2 .taken)) (c .before .before .refusal2 .ensures)
+    (t .result) (t .ensures) (not-true (t .result .taken) (c .before .before .before .before .if2 .taken)) (c .before .before .wrong-line2 .ensures)
 
 add-place : tie.Need-add-place Inv-loop μ-loop
 add-place c = omega arith
@@ -114,7 +115,7 @@ lines-spec =
     μ-loop
     loop-holds
     (λ c κs. search needs)
-    refusal-requires
+    wrong-line-requires
     same-length
     returns
     sub-frame-of
@@ -122,7 +123,7 @@ lines-spec =
     part-frame-of-end
     (λ c κs. search needs)
     line-requires
-    refusal-requires-2
+    wrong-line-requires-2
     same-length-2
     returns-2
     add-place

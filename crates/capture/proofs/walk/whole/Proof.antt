@@ -9,7 +9,7 @@ use Rattle.base.proofs.Picks.{pick-yes}
 use Rattle.chain.specs.Chain.{chipCount, testedOf}
 use Rattle.chain.specs.Entries.{startChain}
 use Rattle.capture.specs.Lines.{linesOf}
-use Rattle.capture.specs.Parts.{lineLength, firstIn, chipsIn, Puts}
+use Rattle.capture.specs.Parts.{lineLength, firstIn, chipsIn}
 use Rattle.capture.specs.Replay.{linesOut}
 use Rattle.capture.proofs.Puts.{refusal-length}
 use Rattle.capture.proofs.Firsts.{long-out, none-out, replays-so, piece-room, begun-more, begun-tested, begun-out}
@@ -20,26 +20,26 @@ use Rattle.capture.proofs.walk.whole.Tie as tie
 refusal-requires : tie.Need-refusal-requires
 refusal-requires c κs =
     let a = c .before .before .before .before .args in
-    let p = piece-room (length (a .out .now)) (long-out (a .what) (a .text .now) (c .before .if1 .taken)) (c .before .before .before .before .pre) in
+    let p = piece-room (length (a .out .now)) (long-out (a .what) (a .text .now) (c .before .if1 .taken) .0) (c .before .before .before .before .pre) in
     omega (arith, p, refusal-length 11 0)
 
 returns : tie.Need-returns
 returns c =
     let a = c .before .before .before .before .before .before .before .args in
-    replays-so _ (long-out (a .what) (a .text .now) (c .before .before .before .before .if1 .taken)) (c .before .before .refusal .ensures)
+    replays-so _ (long-out (a .what) (a .text .now) (c .before .before .before .before .if1 .taken)) (record { puts = c .before .before .refusal .ensures; answer = refl })
 
-refusal-requires-2 : tie.Need-refusal-requires-2
-refusal-requires-2 c κs =
+wrong-line-requires : tie.Need-wrong-line-requires
+wrong-line-requires c κs =
     let a = c .before .before .before .before .before .before .before .args in
     let e = none-out (a .what) (a .text .now) (c .before .before .before .before .if1 .left) (sym (c .before .before .first .ensures) ∙ c .before .if2 .taken) in
-    let p = piece-room (length (a .out .now)) e (c .before .before .before .before .before .before .before .pre) in
+    let p = piece-room (length (a .out .now)) (e .0) (c .before .before .before .before .before .before .before .pre) in
     omega (arith, p, refusal-length 10 1)
 
 returns-2 : tie.Need-returns-2
 returns-2 c =
     let a = c .before .before .before .before .before .before .before .before .before .before .args in
     let e = none-out (a .what) (a .text .now) (c .before .before .before .before .before .before .before .if1 .left) (sym (c .before .before .before .before .before .first .ensures) ∙ c .before .before .before .before .if2 .taken) in
-    replays-so _ e (c .before .before .refusal2 .ensures)
+    replays-so _ e (c .before .before .wrong-line .ensures)
 
 add-lines : tie.Need-add-lines
 add-lines c =
@@ -58,7 +58,7 @@ lines-requires c κs =
     let e : end .result ≡ lineLength (a .text .now) = omega (arith, end .ensures) in
     let out = begun-out (a .what) (a .text .now) (end .result) (first .result) (start .result) short e (first .ensures) (c .before .before .before .if2 .left) (start .ensures) in
     let more = begun-more (a .what) (a .text .now) (end .result) (first .result) (start .result) short e (first .ensures) (c .before .before .before .if2 .left) (start .ensures) in
-    (begun-tested (a .what) (a .text .now) (end .result) (first .result) (start .result) short e (first .ensures) (c .before .before .before .if2 .left) (start .ensures), ((omega (arith, more), short), piece-room (length (a .out .now)) out (c .before .before .before .before .before .before .before .before .before .pre)))
+    (begun-tested (a .what) (a .text .now) (end .result) (first .result) (start .result) short e (first .ensures) (c .before .before .before .if2 .left) (start .ensures), ((omega (arith, more), short), piece-room (length (a .out .now)) (out .0) (c .before .before .before .before .before .before .before .before .before .pre)))
 
 returns-3 : tie.Need-returns-3
 returns-3 c =
@@ -80,7 +80,7 @@ whole-spec =
     returns
     (λ c κs. search needs)
     (λ c κs. omega (arith, c .line-end .ensures))
-    refusal-requires-2
+    wrong-line-requires
     (λ c. search needs)
     returns-2
     (λ c κs. search needs)
