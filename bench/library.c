@@ -1,0 +1,233 @@
+/* Times the library that C links beside its plain twins, in one process: each job is done by the one and by the other in turn, nine
+ * times, after turns that aren't counted; the medians are divided. Both must answer the same.
+ *
+ *     library TEXT                    TEXT is what is replayed
+ *     library TEXT JOB SIDE TIMES     does one job so many times, by the library (SIDE 0) or by the twin (1), and times nothing
+ *
+ * The first prints a line for each job, with tabs between: its name, the microseconds of the library and of the twin, the ratio. */
+#include "libc.h"
+#include "twin.h"
+#include "zhaqsumir.h"
+
+enum { TURNS = 9, CHIPS = 8, ROWS = 64, BLOCK = 65536 };
+
+/* Both sides are called by pointers, so that no compiler takes a twin apart where it is called. */
+struct side {
+    void (*decode)(unsigned short, unsigned long *);
+    void (*encode)(const unsigned long *, unsigned long *);
+    void (*write)(unsigned long, const unsigned short *, unsigned long, unsigned char *, unsigned long, unsigned long *);
+    void (*find)(unsigned char, const unsigned char *, unsigned long, unsigned long *);
+    void (*replay)(const unsigned char *, unsigned long, unsigned char *, unsigned long *);
+};
+static const struct side sides[2] = {
+    { zhaqsumir_decode, zhaqsumir_encode, zhaqsumir_write, zhaqsumir_find, zhaqsumir_replay },
+    { twin_decode, twin_encode, twin_write, twin_find, twin_replay },
+};
+
+static unsigned short words[ROWS * CHIPS];
+static unsigned char samples[ROWS * ZHAQSUMIR_ROW_SAMPLES(CHIPS)], block[BLOCK];
+static unsigned long commands[4096][ZHAQSUMIR_COMMAND], legal;
+static unsigned char text[ZHAQSUMIR_TEXT_MOST + 1], of_rows[ZHAQSUMIR_TEXT_MOST], out[ZHAQSUMIR_REPLAY_ROOM];
+static unsigned long length, length_of_rows;
+
+/* ---- the jobs; each gives a number that tells its answers ---- */
+
+static unsigned long write_rows(const struct side *side)
+{
+    unsigned long answer[ZHAQSUMIR_WRITE_ANSWER];
+
+    side->write(CHIPS, words, ROWS * CHIPS, samples, sizeof samples, answer);
+    return answer[0] + answer[2] + samples[sizeof samples / 2];
+}
+
+static unsigned long find_none(const struct side *side)
+{
+    unsigned long answer[ZHAQSUMIR_FIND_ANSWER];
+
+    side->find(ZHAQSUMIR_IDLE, block, BLOCK, answer);
+    return answer[2] + answer[4];
+}
+
+/* From rise to rise through the written list, as a till does that takes one frame at a time. */
+static unsigned long find_rises(const struct side *side)
+{
+    unsigned long answer[ZHAQSUMIR_FIND_ANSWER], at = 0, rises = 0;
+
+    do {
+        side->find(at == 0 ? ZHAQSUMIR_IDLE : samples[at - 1], samples + at, sizeof samples - at, answer);
+        at += answer[4];
+        rises += answer[2];
+    } while (answer[2]);
+    return rises + at;
+}
+
+static unsigned long decode_all(const struct side *side)
+{
+    unsigned long answer[ZHAQSUMIR_DECODE_ANSWER], sum = 0, word;
+
+    for (word = 0; word < 4096; word++) {
+        side->decode((unsigned short)word, answer);
+        sum = 3 * sum + answer[0] + answer[2] + answer[3];
+    }
+    return sum;
+}
+
+static unsigned long encode_all(const struct side *side)
+{
+    unsigned long answer[ZHAQSUMIR_ENCODE_ANSWER], sum = 0, i;
+
+    for (i = 0; i < legal; i++) {
+        side->encode(commands[i], answer);
+        sum = 3 * sum + answer[0] + answer[2];
+    }
+    return sum;
+}
+
+static unsigned long replay(const struct side *side, const unsigned char *from, unsigned long size)
+{
+    unsigned long answer[ZHAQSUMIR_REPLAY_ANSWER];
+
+    side->replay(from, size, out, answer);
+    return answer[0] + answer[2] + out[answer[2] / 2];
+}
+
+static unsigned long replay_text(const struct side *side)
+{
+    return replay(side, text, length);
+}
+
+static unsigned long replay_rows(const struct side *side)
+{
+    return replay(side, of_rows, length_of_rows);
+}
+
+static const struct job {
+    const char *name;
+    unsigned long (*work)(const struct side *);
+} jobs[] = {
+    { "write: 64 rows of 8 chips", write_rows },
+    { "find: 65,536 samples without a rise", find_none },
+    { "find: rise by rise through 12,416 written samples", find_rises },
+    { "decode: all 4,096 words", decode_all },
+    { "encode: all 3,191 commands", encode_all },
+    { "replay: 64 rows of 8 chips, a rise in 194 samples", replay_rows },
+    { "replay: the longest capture, a rise in 2 samples", replay_text },
+};
+enum { JOBS = sizeof jobs / sizeof jobs[0] };
+
+/* ---- what they work on ---- */
+
+static int prepare(const char *name)
+{
+    FILE *file = fopen(name, "rb");
+    unsigned long seed = 1, answer[ZHAQSUMIR_DECODE_ANSWER], word, i;
+
+    if (file == NULL)
+        return 0;
+    length = fread(text, 1, sizeof text, file);
+    fclose(file);
+    for (i = 0; i < BLOCK; i++) {
+        seed = seed * 6364136223846793005 + 1442695040888963407;
+        block[i] = (unsigned char)((seed >> 40 & 3) + (i < BLOCK / 2 ? 4 : 0)); /* LOAD falls once and never rises */
+    }
+    for (word = 0; word < 4096; word++) {
+        twin_decode((unsigned short)word, answer);
+        if (answer[0] == 0)
+            memcpy(commands[legal++], answer + 2, sizeof commands[0]);
+    }
+    for (i = 0; i < ROWS * CHIPS; i++) {                                        /* listed words of every kind, no KEYB */
+        unsigned long encoded[ZHAQSUMIR_ENCODE_ANSWER];
+
+        do {
+            seed = seed * 6364136223846793005 + 1442695040888963407;
+            twin_encode(commands[(seed >> 33) % legal], encoded);
+        } while ((encoded[2] & 0xFC2) == 0x402);
+        words[i] = (unsigned short)encoded[2];
+    }
+    twin_write(CHIPS, words, ROWS * CHIPS, samples, sizeof samples, answer);
+    memcpy(of_rows, "000108", 6);
+    length_of_rows = 6;
+    for (i = 0; i < sizeof samples; i++) {                                      /* the written rows as lines of 32 samples */
+        if (i % 32 == 0) {
+            memcpy(of_rows + length_of_rows, "\n01", 3);
+            length_of_rows += 3;
+        }
+        of_rows[length_of_rows++] = '0';
+        of_rows[length_of_rows++] = (unsigned char)('0' + samples[i]);
+    }
+    of_rows[length_of_rows++] = '\n';
+    return 1;
+}
+
+/* ---- the clock ---- */
+
+static unsigned long now(void)
+{
+    struct timespec time;
+
+    clock_gettime(CLOCK_MONOTONIC, &time);
+    return (unsigned long)time.tv_sec * 1000000000 + (unsigned long)time.tv_nsec;
+}
+
+static unsigned long timed(const struct job *job, int side, unsigned long times, unsigned long told[2])
+{
+    unsigned long began = now(), i;
+
+    for (i = 0; i < times; i++)
+        told[side] = job->work(&sides[side]);
+    return now() - began;
+}
+
+static unsigned long median(unsigned long times[TURNS])
+{
+    int i, j;
+
+    for (i = 1; i < TURNS; i++) {
+        for (j = i; j > 0 && times[j - 1] > times[j]; j--) {
+            unsigned long other = times[j];
+
+            times[j] = times[j - 1];
+            times[j - 1] = other;
+        }
+    }
+    return times[TURNS / 2];
+}
+
+static int compare(const struct job *job)
+{
+    unsigned long turns[2][TURNS], told[2], times = 1;
+    double proved, plain;
+    int i, side;
+
+    timed(job, 0, 1, told);
+    while (timed(job, 1, times, told) < 20000000)                               /* a turn takes 20 ms or more */
+        times *= 2;
+    for (i = 0; i < TURNS; i++) {
+        for (side = 0; side < 2; side++)
+            turns[side][i] = timed(job, side, times, told);
+    }
+    proved = (double)median(turns[0]) / (double)times / 1000;
+    plain = (double)median(turns[1]) / (double)times / 1000;
+    printf("%s\t%.2f\t%.2f\t%.3f\n", job->name, proved, plain, proved / plain);
+    if (told[0] != told[1])
+        fprintf(stderr, "%s: the answers differ\n", job->name);
+    return told[0] == told[1];
+}
+
+int main(int count, char **given)
+{
+    unsigned long told[2];
+    int same = 1, i;
+
+    if ((count != 2 && count != 5) || !prepare(given[1])) {
+        fprintf(stderr, "library TEXT [JOB SIDE TIMES]\n");
+        return 2;
+    }
+    if (count == 5) {
+        timed(&jobs[strtoul(given[2], NULL, 10) % JOBS], strtoul(given[3], NULL, 10) % 2, strtoul(given[4], NULL, 10), told);
+        return 0;
+    }
+    for (i = 0; i < JOBS; i++)
+        same &= compare(&jobs[i]);
+    return !same;
+}

@@ -1,0 +1,68 @@
+-- What `zhaqsumir_decode` answers may be given to `zhaqsumir_encode`, which answers the same word.
+--     numbers-back      a legal command comes back from its numbers
+--     encode-decoded    the kind and fields of a listed word are encoded as that word, but for x bits
+-- Assumes nothing.
+use mathlib.Core.Path.{_≡_, refl, ap, sym, _∙_}
+use mathlib.Core.Bool.{Bool, true, false}
+use mathlib.Core.List.{[], _∷_}
+use Prim.Native.Nat.{ℕ, _≤_}
+use native.Mathlib.Omega.{arith}
+use lib.Dec.{T, eqb, leb, leb→le}
+use Rattle.base.specs.Bits.{digit}
+use Rattle.base.specs.Refusals.{Told, done}
+use Rattle.base.proofs.Cuts.{digit-lt}
+use Rattle.base.proofs.Picks.{pick-yes}
+use Rattle.base.proofs.Tests.{and-left, and-right}
+use Rattle.word.specs.declared.Command.{Command}
+use Rattle.word.specs.declared.Command.the-variants.{NoOperation, BarLevel, SegmentClear, SegmentSet, Reset, Sleep, ShiftLeft, ShiftRight, RotateLeft, RotateRight, CustomCharacter, SystemParameters, DisplayParameters, BlinkByte, ReadKey, LoadDigit}
+use Rattle.word.specs.Words.{decodedOf, encodedOf, wordOf, legal, plain}
+use Rattle.word.proofs.RoundTrips.{word-back, meaning-legal}
+use Rattle.zhaqsumir.specs.Commands.{numbersOf, commandFrom, commandIn, withByte}
+use Rattle.zhaqsumir.specs.Numbers.{alone, encodedBy, encodeNumbers}
+use Rattle.zhaqsumir.proofs.Fields.{fits-in}
+
+digit-bit : (b : Bool) → eqb (digit b) 1 ≡ b
+digit-bit true = refl
+digit-bit false = refl
+
+digit-most : (b : Bool) → digit b ≤ 1
+digit-most b = omega (arith, digit-lt b)
+
+small : {most : ℕ} (n : ℕ) → most ≤ 255 → T (leb n most) → n ≤ 255
+small {most} n h t = let l = leb→le n most t in omega arith
+
+pub numbers-back : (c : Command) → T (legal c) → commandIn (numbersOf c) ≡ done c
+unfolding commandFrom withByte
+numbers-back NoOperation t = refl
+numbers-back (BarLevel level) t = sym (fits-in (small level (omega arith) t) refl)
+numbers-back (SegmentClear addr) t = sym (fits-in (small addr (omega arith) t) refl)
+numbers-back (SegmentSet addr) t = sym (fits-in (small addr (omega arith) t) refl)
+numbers-back Reset t = refl
+numbers-back Sleep t = refl
+numbers-back ShiftLeft t = refl
+numbers-back ShiftRight t = refl
+numbers-back RotateLeft t = refl
+numbers-back RotateRight t = refl
+numbers-back (CustomCharacter shape) t = sym (fits-in (small shape (omega arith) t) refl)
+numbers-back (SystemParameters s) t =
+    sym (fits-in (digit-most (s .intm)) (fits-in (digit-most (s .sspd)) (fits-in (digit-most (s .dplr)) (fits-in (digit-most (s .keyb)) (fits-in (digit-most (s .disp)) refl)))))
+    ∙ (λ i. done (SystemParameters (record { intm = digit-bit (s .intm) i; sspd = digit-bit (s .sspd) i; dplr = digit-bit (s .dplr) i; keyb = digit-bit (s .keyb) i; disp = digit-bit (s .disp) i })))
+numbers-back (DisplayParameters d) t =
+    sym (fits-in (digit-most (d .mode)) (fits-in (small (d .limit) (omega arith) t) refl))
+    ∙ (λ i. done (DisplayParameters (record { mode = digit-bit (d .mode) i; limit = d .limit })))
+numbers-back (BlinkByte byte) t = sym (fits-in (small byte (omega arith) t) refl)
+numbers-back ReadKey t = refl
+numbers-back (LoadDigit dig byte) t =
+    sym (fits-in (small dig (omega arith) (and-left (leb dig 7) (leb byte 255) t)) (fits-in (small byte (omega arith) (and-right (leb dig 7) (leb byte 255) t)) refl))
+
+legal-word : (c : Command) (b : Bool) → legal c ≡ b → T b → encodedOf c ≡ done (wordOf c)
+unfolding encodedOf
+legal-word c true e t = pick-yes _ _ e
+legal-word c false e t = absurd t
+
+pub encode-decoded : (w : ℕ) (c : Command) → decodedOf w ≡ done c → encodeNumbers (numbersOf c) ≡ 0 ∷ 0 ∷ plain w ∷ []
+encode-decoded w c e =
+    let t = meaning-legal w c e in
+    ap (λ (told : Told Command). alone (encodedBy told)) (numbers-back c t)
+    ∙ ap alone (legal-word c (legal c) refl t)
+    ∙ ap (λ (n : ℕ). 0 ∷ 0 ∷ n ∷ []) (word-back w c e)

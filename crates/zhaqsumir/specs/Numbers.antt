@@ -1,0 +1,96 @@
+-- Which number stands where in the answers: a refusal's number and place by document 01 (0 and 0 where there is none), then the
+-- answer's own numbers, zeros where it is refused.
+-- Assumes nothing.
+use mathlib.Core.Path.{_≡_}
+use Prim.Native.Nat.{ℕ}
+use mathlib.Core.List.{List, [], _∷_}
+use lib.ListN.{length}
+use Rattle.base.specs.Lent.{laid}
+use Rattle.base.specs.Refusals.{Told, done, refused}
+use Rattle.word.specs.declared.Command.{Command}
+use Rattle.word.specs.Words.{decodedOf, encodedOf}
+use Rattle.chain.specs.declared.finder.Rise.{Rise}
+use Rattle.chain.specs.declared.finder.Rise.the-variants.{At, Nothing}
+use Rattle.chain.specs.Finder.{foundOf}
+use Rattle.writer.specs.Rows.{written}
+use Rattle.writer.specs.Written.{answerOf, bytesBy}
+use Rattle.capture.specs.declared.Report.the-variants.{Words}
+use Rattle.capture.specs.Replay.{endOf, outputOf}
+use Rattle.zhaqsumir.specs.Commands.{numbersOf, commandIn}
+
+-- the number of a refusal; 0 where there is none
+abbrev pub numberIn {ℓ} : {A : Type ℓ} → Told A → ℕ
+numberIn (done answer) = 0
+numberIn (refused number place) = number
+
+-- its place; 0 where there is none
+abbrev pub placeIn {ℓ} : {A : Type ℓ} → Told A → ℕ
+placeIn (done answer) = 0
+placeIn (refused number place) = place
+
+-- ---- decode: number, place, kind, five fields
+
+-- the command's numbers, or zeros
+abbrev pub kindAndFields : Told Command → List ℕ
+kindAndFields (done c) = numbersOf c
+kindAndFields (refused number place) = 0 ∷ 0 ∷ 0 ∷ 0 ∷ 0 ∷ 0 ∷ []
+
+abbrev pub decodeBy : Told Command → List ℕ
+decodeBy t = numberIn t ∷ placeIn t ∷ kindAndFields t
+
+-- what `zhaqsumir_decode` answers
+abbrev pub decodeNumbers : ℕ → List ℕ
+decodeNumbers word = decodeBy (decodedOf word)
+
+-- ---- encode and write: number, place, and the word or how many samples
+
+-- the answer's one number, or 0
+abbrev pub numberOr0 : Told ℕ → ℕ
+numberOr0 (done n) = n
+numberOr0 (refused number place) = 0
+
+abbrev pub alone : Told ℕ → List ℕ
+alone t = numberIn t ∷ placeIn t ∷ numberOr0 t ∷ []
+
+-- the word of a command that was given
+abbrev pub encodedBy : Told Command → Told ℕ
+encodedBy (done c) = encodedOf c
+encodedBy (refused number place) = refused number place
+
+-- what `zhaqsumir_encode` answers to a kind and five fields
+abbrev pub encodeNumbers : List ℕ → List ℕ
+encodeNumbers six = alone (encodedBy (commandIn six))
+
+-- what `zhaqsumir_write` does: its answer, and the buffer as the writer leaves it
+pub record Writes (n : ℕ) (words out : List ℕ) (answer out′ : List ℕ) : Type 0 where
+  pub numbers : answer ≡ alone (answerOf n words out)
+  pub bytes : out′ ≡ bytesBy (answerOf n words out) (written n words) out
+
+-- ---- find: number, place, 1 where there is a rise, its place, how many samples were passed
+
+-- 1 where there is a rise
+abbrev pub isRise : Rise → ℕ
+isRise (At place) = 1
+isRise Nothing = 0
+
+-- its place, or 0
+abbrev pub risePlace : Rise → ℕ
+risePlace (At place) = place
+risePlace Nothing = 0
+
+abbrev pub findBy : Told (Unit {0}) → Rise → ℕ → List ℕ
+findBy t rise passed = numberIn t ∷ placeIn t ∷ isRise rise ∷ risePlace rise ∷ passed ∷ []
+
+-- what `zhaqsumir_find` answers
+abbrev pub findNumbers : ℕ → List ℕ → List ℕ
+findNumbers levels samples = let o = foundOf levels samples in findBy (o .told) (o .state .rise) (o .state .passed)
+
+-- ---- replay: number, line, how many bytes were written
+
+abbrev pub replayBy : Told (Unit {0}) → ℕ → List ℕ
+replayBy t bytes = numberIn t ∷ placeIn t ∷ bytes ∷ []
+
+-- what `zhaqsumir_replay` does: its answer, and the array, with the output at its front
+pub record Replays (text out : List ℕ) (answer out′ : List ℕ) : Type 0 where
+  pub numbers : answer ≡ replayBy (endOf text) (length (outputOf Words text))
+  pub bytes : out′ ≡ laid (outputOf Words text) out

@@ -1,0 +1,214 @@
+// The till's own library: the proved functions for C to link. Each takes numbers and slices, and answers by numbers in a lent
+// array: a refusal's number and place, 0 and 0 where there is none, then the answer, zeros where it is refused.
+// include/zhaqsumir.h is their header.
+mod commands;
+
+use base::Refusal;
+use base::Verdict;
+use capture::Replayed;
+use chain::finder::Found;
+use chain::finder::Rise;
+use commands::Given;
+use word::Decoded;
+use word::Encoded;
+use writer::Written;
+ghost use mathlib.Core.Path.{_≡_};
+ghost use Rattle.base.specs.Refusals.{numberOf, placeOf, verdictTells};
+ghost use Rattle.word.specs.Answers.{decodedTells, encodedTells};
+ghost use Rattle.writer.specs.Written.{writtenTells};
+ghost use Rattle.zhaqsumir.specs.Commands.{givenTells};
+ghost use Rattle.zhaqsumir.specs.Numbers as N;
+
+// Document 01's number of a refusal.
+fn number(e: Refusal) -> u64
+    ensures { λ r. ⌜ r ≡ numberOf e ⌝ }
+{
+    match e {
+        Refusal::Sample(_) => 1,
+        Refusal::ScanChip => 2,
+        Refusal::ChipCount => 3,
+        Refusal::PartRow => 4,
+        Refusal::Rows => 5,
+        Refusal::Unlisted(_) => 6,
+        Refusal::Keypad(_) => 7,
+        Refusal::Room => 8,
+        Refusal::Field => 9,
+        Refusal::Line(_) => 10,
+        Refusal::Text => 11,
+        Refusal::Record => 12,
+    }
+}
+
+// The place that a refusal names, or 0.
+fn place(e: Refusal) -> u64
+    ensures { λ r. ⌜ r ≡ placeOf e ⌝ }
+{
+    match e {
+        Refusal::Sample(at) => at,
+        Refusal::ScanChip => 0,
+        Refusal::ChipCount => 0,
+        Refusal::PartRow => 0,
+        Refusal::Rows => 0,
+        Refusal::Unlisted(at) => at,
+        Refusal::Keypad(at) => at,
+        Refusal::Room => 0,
+        Refusal::Field => 0,
+        Refusal::Line(at) => at,
+        Refusal::Text => 0,
+        Refusal::Record => 0,
+    }
+}
+
+// The number of a verdict's refusal; 0 where it is none.
+fn verdict_number(v: Verdict) -> u64
+    ensures { λ r. ⌜ r ≡ N.numberIn (verdictTells v) ⌝ }
+{
+    match v {
+        Verdict::Done => 0,
+        Verdict::Refused(e) => number(e),
+    }
+}
+
+// The place of a verdict's refusal; 0 where it is none.
+fn verdict_place(v: Verdict) -> u64
+    ensures { λ r. ⌜ r ≡ N.placeIn (verdictTells v) ⌝ }
+{
+    match v {
+        Verdict::Done => 0,
+        Verdict::Refused(e) => place(e),
+    }
+}
+
+// What a word means.
+fn decoded(answer: Decoded) -> [u64; 8]
+    ensures { λ r. ⌜ r ≡ N.decodeBy (decodedTells answer) ⌝ }
+{
+    match answer {
+        Decoded::Means(c) => commands::meaning(c),
+        Decoded::Refused(e) => [number(e), place(e), 0, 0, 0, 0, 0, 0],
+    }
+}
+
+// A command's word.
+fn encoded(answer: Encoded) -> [u64; 3]
+    ensures { λ r. ⌜ r ≡ N.alone (encodedTells answer) ⌝ }
+{
+    match answer {
+        Encoded::Word(w) => [0, 0, w as u64],
+        Encoded::Refused(e) => [number(e), place(e), 0],
+    }
+}
+
+// The word of a command that was given.
+fn given(g: Given) -> [u64; 3]
+    ensures { λ r. ⌜ r ≡ N.alone (N.encodedBy (givenTells g)) ⌝ }
+{
+    match g {
+        Given::Is(c) => encoded(word::encode(c)),
+        Given::Refused => [9, 0, 0],
+    }
+}
+
+// How many samples were written.
+fn written(answer: Written) -> [u64; 3]
+    ensures { λ r. ⌜ r ≡ N.alone (writtenTells answer) ⌝ }
+{
+    match answer {
+        Written::Samples(count) => [0, 0, count as u64],
+        Written::Refused(e) => [number(e), place(e), 0],
+    }
+}
+
+// 1 where there is a rise.
+fn is_rise(rise: Rise) -> u64
+    ensures { λ r. ⌜ r ≡ N.isRise rise ⌝ }
+{
+    match rise {
+        Rise::At(_) => 1,
+        Rise::Nothing => 0,
+    }
+}
+
+// The place of a rise, or 0.
+fn rise_place(rise: Rise) -> u64
+    ensures { λ r. ⌜ r ≡ N.risePlace rise ⌝ }
+{
+    match rise {
+        Rise::At(at) => at as u64,
+        Rise::Nothing => 0,
+    }
+}
+
+// The next rise.
+fn found(f: Found) -> [u64; 5]
+    ensures { λ r. ⌜ r ≡ N.findBy (verdictTells (f .answer)) (f .rise) (f .passed) ⌝ }
+{
+    let answer = f.answer;
+    let rise = f.rise;
+    [
+        verdict_number(answer),
+        verdict_place(answer),
+        is_rise(rise),
+        rise_place(rise),
+        f.passed as u64,
+    ]
+}
+
+// How a text was replayed.
+fn replayed(r: Replayed) -> [u64; 3]
+    ensures { λ a. ⌜ a ≡ N.replayBy (verdictTells (r .answer)) (r .bytes) ⌝ }
+{
+    let answer = r.answer;
+    [
+        verdict_number(answer),
+        verdict_place(answer),
+        r.bytes as u64,
+    ]
+}
+
+// What a word means: number, place, kind, five fields.
+#[no_mangle]
+pub extern "C" fn zhaqsumir_decode(word: u16, answer: &mut [u64; 8])
+    ensures { λ _. ⌜ now (answer .exit) ≡ N.decodeNumbers word ⌝ }
+{
+    *answer = decoded(word::decode(word));
+}
+
+// The word of a command, given as kind and five fields: number, place, word.
+#[no_mangle]
+pub extern "C" fn zhaqsumir_encode(command: &[u64; 6], answer: &mut [u64; 3])
+    ensures { λ _. ⌜ now (answer .exit) ≡ N.encodeNumbers (now (command .entry)) ⌝ }
+{
+    *answer = given(commands::command_from(
+        command[0],
+        command[1],
+        command[2],
+        command[3],
+        command[4],
+        command[5],
+    ));
+}
+
+// Writes rows of words, chip 0 first in each row: number, place, how many samples.
+#[no_mangle]
+pub extern "C" fn zhaqsumir_write(n: usize, words: &[u16], out: &mut [u8], answer: &mut [u64; 3])
+    ensures { λ _. ⌜ N.Writes n (now (words .entry)) (now (out .entry)) (now (answer .exit)) (now (out .exit)) ⌝ }
+{
+    *answer = written(writer::write(n, words, out));
+}
+
+// Looks for the next LOAD rise: number, place, 1 where there is one, its place, how many samples were passed.
+#[no_mangle]
+pub extern "C" fn zhaqsumir_find(levels: u8, samples: &[u8], answer: &mut [u64; 5])
+    ensures { λ _. ⌜ now (answer .exit) ≡ N.findNumbers levels (now (samples .entry)) ⌝ }
+{
+    *answer = found(chain::finder::next_rise(levels, samples));
+}
+
+// Replays a capture text: number, line, how many bytes stand at the front of `out`.
+#[no_mangle]
+pub extern "C" fn zhaqsumir_replay(text: &[u8], out: &mut [u8; 1179661], answer: &mut [u64; 3])
+    ensures { λ _. ⌜ N.Replays (now (text .entry)) (now (out .entry)) (now (answer .exit)) (now (out .exit)) ⌝ }
+{
+    *answer = replayed(capture::replay(text, out));
+}

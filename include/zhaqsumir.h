@@ -1,0 +1,158 @@
+/* The proved functions of Zhaqsumir for C: words, the writer, the finder and the replay of a capture.
+ *
+ * Link target/staticlib/libzhaqsumir.a, which `rt staticlib zhaqsumir` makes, for x86-64 Linux. C11 or C++11; no other header is
+ * needed. "Document 01" is the requirements, and its words are used: a word is a 12-bit command of a CH452, a sample is the three
+ * wires at one moment, N is the number of chips in the chain, a row is one word for each chip.
+ *
+ * Every function writes an array of numbers, the answer. Its first number is 0, or the number of a refusal; its second is the
+ * place that the refusal names, or 0. What answer and out held before never matters. No function keeps anything between calls, has
+ * a heap or calls the system, so several threads may call at once, each with its own memory. Of the C library the archive needs
+ * memcpy alone.
+ *
+ * No value is a bad call: any word, level, N, field, sample and byte of text is answered, at worst by a refusal. Bad calls are
+ * those that C allows and Rattle doesn't. They are the caller's: nothing tests them, and after one nothing that is said here holds.
+ *   - No pointer is null, not even where its length is 0 or where nothing is written.
+ *   - A pointer is aligned for its type: an even address for words, a multiple of 8 for unsigned long.
+ *   - A length counts elements, and its pointer has at least so many. An array has at least the size that stands here.
+ *   - What a function writes (answer, out) overlaps nothing else that the call is given. What it only reads may overlap.
+ *   - All of it is the caller's own memory during the whole call, and can be read; answer and out can be written. Bytes that were
+ *     never set are no fault. No thread, interrupt or device writes any of it, or reads answer and out, before the call is over.
+ */
+#ifndef ZHAQSUMIR_H
+#define ZHAQSUMIR_H
+
+#ifdef __cplusplus
+static_assert(sizeof(unsigned short) == 2 && sizeof(unsigned long) == 8 && sizeof(void *) == 8, "x86-64 Linux");
+extern "C" {
+#else
+_Static_assert(sizeof(unsigned short) == 2, "unsigned short is 16 bits, uint16_t");
+_Static_assert(sizeof(unsigned long) == 8, "unsigned long is 64 bits, uint64_t and size_t");
+_Static_assert(sizeof(void *) == 8, "an address is 64 bits");
+#endif
+
+/* A sample is a byte 0 to 7: DIN + 2 DCLK + 4 LOAD. */
+enum {
+    ZHAQSUMIR_DIN = 1,
+    ZHAQSUMIR_DCLK = 2,
+    ZHAQSUMIR_LOAD = 4,
+    ZHAQSUMIR_IDLE = 7 /* all three high */
+};
+
+/* Sizes. */
+#define ZHAQSUMIR_MOST_CHIPS 8
+#define ZHAQSUMIR_MOST_ROWS 64
+#define ZHAQSUMIR_ROW_SAMPLES(n) (24ul * (n) + 2ul)     /* the samples of a row for n chips */
+#define ZHAQSUMIR_TEXT_MOST 65536ul                     /* the bytes of a capture text, at most */
+#define ZHAQSUMIR_REPLAY_ROOM 1179661ul                 /* the bytes that a replay is lent; no text writes more */
+
+/* The refusals, as document 01 numbers them. */
+enum {
+    ZHAQSUMIR_NO_REFUSAL = 0,
+    ZHAQSUMIR_BAD_SAMPLE = 1,    /* a sample is above 7 (lowest place named) */
+    ZHAQSUMIR_BAD_SCAN_CHIP = 2, /* a scan's chip is not below N (no function here gives it: inside text it is 10) */
+    ZHAQSUMIR_BAD_CHIPS = 3,     /* N is not 1 to 8 */
+    ZHAQSUMIR_PART_ROW = 4,      /* list length isn't a multiple of N */
+    ZHAQSUMIR_MANY_ROWS = 5,     /* more than 64 rows */
+    ZHAQSUMIR_BAD_WORD = 6,      /* a word given to the writer or the decoder is unlisted or above 4,095 */
+    ZHAQSUMIR_EARLY_KEYPAD = 7,  /* a system word with KEYB 1 for a chip that isn't the last */
+    ZHAQSUMIR_SHORT_BUFFER = 8,  /* the buffer is shorter than the samples */
+    ZHAQSUMIR_BAD_FIELD = 9,     /* a command field is out of range */
+    ZHAQSUMIR_BAD_LINE = 10,     /* a line isn't of the form above, the first missing included */
+    ZHAQSUMIR_LONG_TEXT = 11,    /* text longer than 65,536 bytes */
+    /* a chip record below N has register above 4,095, custom or code above 127, limit above 7, a readout of a code above 127 or
+     * with over 7 bits left, or last scan neither none nor 0 to 63; or the levels kept or given are above 7 (here only the last:
+     * the levels given) */
+    ZHAQSUMIR_BAD_LEVELS = 12
+};
+
+/* The sixteen kinds of command, and their fields in order. */
+enum {
+    ZHAQSUMIR_NO_OPERATION = 0,
+    ZHAQSUMIR_BAR_LEVEL = 1,          /* level 0 to 64 */
+    ZHAQSUMIR_SEGMENT_CLEAR = 2,      /* address 0 to 63: 8 SEG + DIG */
+    ZHAQSUMIR_SEGMENT_SET = 3,        /* address 0 to 63 */
+    ZHAQSUMIR_RESET = 4,
+    ZHAQSUMIR_SLEEP = 5,
+    ZHAQSUMIR_SHIFT_LEFT = 6,
+    ZHAQSUMIR_SHIFT_RIGHT = 7,
+    ZHAQSUMIR_ROTATE_LEFT = 8,
+    ZHAQSUMIR_ROTATE_RIGHT = 9,
+    ZHAQSUMIR_CUSTOM_CHARACTER = 10,  /* shape 0 to 127 */
+    ZHAQSUMIR_SYSTEM_PARAMETERS = 11, /* INTM, SSPD, DPLR, KEYB, DISP: 0 or 1 each */
+    ZHAQSUMIR_DISPLAY_PARAMETERS = 12,/* MODE 0 or 1, LIMIT 0 to 7 (0 means 8) */
+    ZHAQSUMIR_BLINK_BYTE = 13,        /* byte 0 to 255 */
+    ZHAQSUMIR_READ_KEY = 14,
+    ZHAQSUMIR_LOAD_DIGIT = 15         /* digit 0 to 7, byte 0 to 255 */
+};
+
+/* Places in the answers, and how many numbers an answer has. */
+enum {
+    ZHAQSUMIR_NUMBER = 0,             /* of every answer: the refusal, or 0 */
+    ZHAQSUMIR_PLACE = 1,              /* of every answer: the place that the refusal names, or 0 */
+
+    ZHAQSUMIR_DECODED_KIND = 2,
+    ZHAQSUMIR_DECODED_FIELDS = 3,     /* five of them */
+    ZHAQSUMIR_DECODE_ANSWER = 8,
+
+    ZHAQSUMIR_ENCODED_WORD = 2,
+    ZHAQSUMIR_ENCODE_ANSWER = 3,
+    ZHAQSUMIR_COMMAND = 6,            /* what a command takes: a kind and five fields */
+
+    ZHAQSUMIR_SAMPLES_WRITTEN = 2,
+    ZHAQSUMIR_WRITE_ANSWER = 3,
+
+    ZHAQSUMIR_RISE_FOUND = 2,
+    ZHAQSUMIR_RISE_PLACE = 3,
+    ZHAQSUMIR_SAMPLES_PASSED = 4,
+    ZHAQSUMIR_FIND_ANSWER = 5,
+
+    ZHAQSUMIR_BYTES_WRITTEN = 2,
+    ZHAQSUMIR_REPLAY_ANSWER = 3
+};
+
+/* Which command a word is.
+ * answer: the refusal, 0, the kind, its five fields; a field that the kind lacks is 0.
+ * Refused: BAD_WORD (6) where the word is unlisted or above 4,095; the other numbers are then 0. */
+void zhaqsumir_decode(unsigned short word, unsigned long answer[8]);
+
+/* The word of a command, with 0 for the bits that may be anything.
+ * command: the kind and its five fields; fields that the kind lacks are not looked at. It is left as it is.
+ * answer: the refusal, 0, the word.
+ * Refused: BAD_FIELD (9) where the kind is above 15 or a field is out of the range above, a bit above 1 included; the word is
+ * then 0. */
+void zhaqsumir_encode(const unsigned long command[6], unsigned long answer[3]);
+
+/* The samples that send rows of words to a chain of n chips.
+ * words: count of them, row by row, chip 0 first in each row; 0 to 64 rows. They are left as they are.
+ * out, room: the buffer and how many bytes it has. A row takes ZHAQSUMIR_ROW_SAMPLES(n) bytes, and the rows follow one another
+ * from the front of out. Bytes past the written ones keep what they hold.
+ * answer: the refusal, the place, the samples written.
+ * Refused, where several hold the first of them: BAD_CHIPS (3); PART_ROW (4); MANY_ROWS (5); then, from the first word on, BAD_WORD
+ * (6) or EARLY_KEYPAD (7), with the place of that word in words; SHORT_BUFFER (8). Then out is left whole as it was, and 0 samples
+ * are written. */
+void zhaqsumir_write(unsigned long n, const unsigned short *words, unsigned long count,
+                     unsigned char *out, unsigned long room, unsigned long answer[3]);
+
+/* The next LOAD rise in a block of samples: the first sample with LOAD high after one with LOAD low.
+ * levels: the sample before the block (ZHAQSUMIR_IDLE at the start). samples: count of them, left as they are.
+ * answer: the refusal, the place, 1 where there is a rise and 0 where none, the place of the rise or 0, the samples passed: the
+ * place of the rise plus 1, or count where there is none.
+ * Refused: BAD_LEVELS (12) where levels are above 7; then BAD_SAMPLE (1), with the place of the lowest sample above 7, anywhere in
+ * the block, after a rise too. Then no rise is reported and 0 passed. */
+void zhaqsumir_find(unsigned char levels, const unsigned char *samples, unsigned long count, unsigned long answer[5]);
+
+/* What a capture text makes the chips do: for each LOAD rise and chip a line 10, for each recorded key a line 11, as document 01
+ * has them under "Capture text".
+ * text, length: the bytes of the text and how many; they are left as they are.
+ * out: 1,179,661 bytes (ZHAQSUMIR_REPLAY_ROOM). The lines are written from its front, each ended by 0AH; the rest keeps what it
+ * holds. No byte 0 is set at their end.
+ * answer: the refusal that the text ended in, or 0; the number of the refused line from 1, or 0; the bytes written.
+ * Refused: LONG_TEXT (11), with no line number, and out holds the line 1F0B00000000 alone. BAD_LINE (10), with the line number, and
+ * out holds what the lines before it wrote and then a line 1F0A with the line number in four bytes. */
+void zhaqsumir_replay(const unsigned char *text, unsigned long length, unsigned char out[1179661], unsigned long answer[3]);
+
+#ifdef __cplusplus
+}
+#endif
+
+#endif

@@ -1,0 +1,71 @@
+/* What the parts of the test share: random numbers by a seed, memory with guards, the comparison, and the counts of refusals. */
+#ifndef CHECK_H
+#define CHECK_H
+
+/* ---- random numbers, the same for the same seed ---- */
+
+void start_from(unsigned long seed);
+unsigned long any(void);                                /* any 64 bits */
+unsigned long below(unsigned long bound);               /* 0 to bound - 1 */
+int once_in(unsigned long times);                       /* true once in so many times */
+unsigned long one_of(unsigned long count, const unsigned long values[]);
+
+/* ---- what is lent to be read: it ends where no byte can be read ---- */
+
+struct fence {
+    unsigned char *end;
+    unsigned long most;
+};
+struct fence fenced(unsigned long most);
+const void *put_up(const struct fence *fence, const void *from, unsigned long size);
+
+/* ---- what is lent to be written: three copies of the same random bytes, a guard before and behind the lent ones ---- */
+
+enum { GUARD = 64 };
+struct stretch {
+    unsigned char *got;                                 /* for the library */
+    unsigned char *want;                                /* for the twin */
+    unsigned char *before;                              /* for neither */
+    unsigned long front;                                /* the size of the guard before the lent bytes */
+    unsigned long size;                                 /* of the lent bytes */
+    unsigned long most;
+};
+struct stretch stretched(unsigned long most);
+void lend(struct stretch *stretch, unsigned long size); /* new random bytes everywhere */
+void lend_anywhere(struct stretch *stretch, unsigned long size); /* the same, at any address and not at a multiple of 8 */
+void *to_library(const struct stretch *stretch);
+void *to_twin(const struct stretch *stretch);
+
+/* Whether the library left what the twin left, and, past the first `written` bytes and in both guards, what was there before. */
+int same(const struct stretch *stretch, unsigned long written);
+
+/* ---- counts ---- */
+
+struct tally {
+    const char *name;
+    unsigned long compared;
+    unsigned long times[13];                            /* per refusal; 0 is none */
+    unsigned long farthest[13];                         /* the highest place that it named */
+};
+void count_answer(struct tally *tally, unsigned long number, unsigned long place);
+
+/* Prints the counts; a refusal of the list (ended by 0) that was never given, or not at a place so far on, is a fault. No refusal
+ * counts as one of them. */
+void report(const struct tally *tally, const unsigned char refusals[], unsigned long far_on);
+
+/* ---- faults ---- */
+
+enum { SHOWN = 10 };                                    /* so many are printed, the others only counted */
+extern unsigned long faults;
+void fault(const char *function, unsigned long number, const char *what); /* the number of the input */
+void show(const struct stretch *answers);               /* the numbers of both answers */
+void must(int holds, const char *what);                 /* a fault of the test itself ends it */
+
+/* ---- the parts of the test ---- */
+
+void compare_words(unsigned long count);
+void compare_samples(unsigned long count);
+void compare_texts(unsigned long count);
+void compare_capture(const char *text, const char *got);
+
+#endif
