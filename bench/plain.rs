@@ -153,7 +153,7 @@ impl Chip {
     }
 }
 
-fn play(chips: &mut [Chip; 8], levels: &mut u8, samples: &[u8]) -> bool {
+fn play(chips: &mut [Chip], levels: &mut u8, samples: &[u8]) -> bool {
     if samples.iter().any(|&s| s > 7) {
         return false;
     }
@@ -202,10 +202,12 @@ pub extern "C" fn main() -> i32 {
     for (i, s) in block.iter_mut().enumerate() {
         *s = sample(i);
     }
+    // 8, as a number that the compiler doesn't know: a caller's N isn't known to it either.
+    let n = if block[1939] == 7 { 8 } else { 1 };
     let mut chips = [RESET; 8];
     let mut levels = 7;
     for _ in 0..1031 {
-        if !play(&mut chips, &mut levels, &block) {
+        if !play(&mut chips[..n], &mut levels, &block) {
             return 1;
         }
     }

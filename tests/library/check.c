@@ -164,8 +164,10 @@ void report(const struct tally *tally, const unsigned char refusals[], unsigned 
         unsigned number = refusals[i];
         int placed = number == 1 || number == 6 || number == 7;
 
-        if (tally->times[number] == 0 || (placed && tally->farthest[number] < far_on))
-            fault(tally->name, number, "this refusal was never reached, or never far on");
+        if (tally->times[number] == 0 || (placed && tally->farthest[number] < far_on)) {
+            printf("WRONG: %s, refusal %u was never reached, or never far on\n", tally->name, number);
+            faults++;
+        }
     }
     if (tally->times[0] == 0)
         fault(tally->name, 0, "nothing was answered without a refusal");
