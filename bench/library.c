@@ -27,7 +27,7 @@ static const struct side sides[2] = {
 static unsigned short words[ROWS * CHIPS];
 static unsigned char samples[ROWS * ZHAQSUMIR_ROW_SAMPLES(CHIPS)], block[BLOCK];
 static unsigned long commands[4096][ZHAQSUMIR_COMMAND], legal;
-static unsigned char text[ZHAQSUMIR_TEXT_MOST + 1], of_rows[ZHAQSUMIR_TEXT_MOST], out[ZHAQSUMIR_REPLAY_ROOM];
+static unsigned char text[ZHAQSUMIR_MOST_TEXT + 1], of_rows[ZHAQSUMIR_MOST_TEXT], out[ZHAQSUMIR_REPLAY_ROOM];
 static unsigned long length, length_of_rows;
 
 /* ---- the jobs; each gives a number that tells its answers ---- */

@@ -5,9 +5,9 @@
  * wires at one moment, N is the number of chips in the chain, a row is one word for each chip.
  *
  * Every function writes an array of numbers, the answer. Its first number is 0, or the number of a refusal; its second is the
- * place that the refusal names, or 0. What answer and out held before never matters. No function keeps anything between calls, has
- * a heap or calls the system, so several threads may call at once, each with its own memory. Of the C library the archive needs
- * memcpy alone.
+ * place that the refusal names, or 0. Places count from 0 in what this call was given; only the lines of a text count from 1. What
+ * answer and out held before never alters the answer. No function keeps anything between calls, has a heap or calls the system, so
+ * several threads may call at once, each with its own memory. Of the C library the archive needs memcpy alone.
  *
  * No value is a bad call: any word, level, N, field, sample and byte of text is answered, at worst by a refusal. Bad calls are
  * those that C allows and Rattle doesn't. They are the caller's: nothing tests them, and after one nothing that is said here holds.
@@ -42,13 +42,13 @@ enum {
 #define ZHAQSUMIR_MOST_CHIPS 8
 #define ZHAQSUMIR_MOST_ROWS 64
 #define ZHAQSUMIR_ROW_SAMPLES(n) (24ul * (n) + 2ul)     /* the samples of a row for n chips */
-#define ZHAQSUMIR_TEXT_MOST 65536ul                     /* the bytes of a capture text, at most */
+#define ZHAQSUMIR_MOST_TEXT 65536ul                     /* the bytes of a capture text, at most */
 #define ZHAQSUMIR_REPLAY_ROOM 1179661ul                 /* the bytes that a replay is lent; no text writes more */
 
 /* The refusals, as document 01 numbers them. */
 enum {
     ZHAQSUMIR_NO_REFUSAL = 0,
-    ZHAQSUMIR_BAD_SAMPLE = 1,    /* a sample is above 7 (lowest place named) */
+    ZHAQSUMIR_BAD_SAMPLE = 1,    /* a sample is above 7 (the lowest place is named) */
     ZHAQSUMIR_BAD_SCAN_CHIP = 2, /* a scan's chip is not below N (no function here gives it: inside text it is 10) */
     ZHAQSUMIR_BAD_CHIPS = 3,     /* N is not 1 to 8 */
     ZHAQSUMIR_PART_ROW = 4,      /* list length isn't a multiple of N */
@@ -57,7 +57,7 @@ enum {
     ZHAQSUMIR_EARLY_KEYPAD = 7,  /* a system word with KEYB 1 for a chip that isn't the last */
     ZHAQSUMIR_SHORT_BUFFER = 8,  /* the buffer is shorter than the samples */
     ZHAQSUMIR_BAD_FIELD = 9,     /* a command field is out of range */
-    ZHAQSUMIR_BAD_LINE = 10,     /* a line isn't of the form above, the first missing included */
+    ZHAQSUMIR_BAD_LINE = 10,     /* a line isn't of the form that zhaqsumir_replay asks for, the first missing included */
     ZHAQSUMIR_LONG_TEXT = 11,    /* text longer than 65,536 bytes */
     /* a chip record below N has register above 4,095, custom or code above 127, limit above 7, a readout of a code above 127 or
      * with over 7 bits left, or last scan neither none nor 0 to 63; or the levels kept or given are above 7 (here only the last:
@@ -88,7 +88,7 @@ enum {
 /* Places in the answers, and how many numbers an answer has. */
 enum {
     ZHAQSUMIR_NUMBER = 0,             /* of every answer: the refusal, or 0 */
-    ZHAQSUMIR_PLACE = 1,              /* of every answer: the place that the refusal names, or 0 */
+    ZHAQSUMIR_PLACE = 1,              /* of every answer: the place that the refusal names, or 0; of a text the line, from 1 */
 
     ZHAQSUMIR_DECODED_KIND = 2,
     ZHAQSUMIR_DECODED_FIELDS = 3,     /* five of them */
@@ -112,7 +112,9 @@ enum {
 
 /* Which command a word is.
  * answer: the refusal, 0, the kind, its five fields; a field that the kind lacks is 0.
- * Refused: BAD_WORD (6) where the word is unlisted or above 4,095; the other numbers are then 0. */
+ * Refused: BAD_WORD (6) where the word is unlisted or above 4,095; the other numbers are then 0.
+ * Where it isn't refused, answer + ZHAQSUMIR_DECODED_KIND may be given to zhaqsumir_encode, which answers the same word, with 0 for
+ * the bits that may be anything. */
 void zhaqsumir_decode(unsigned short word, unsigned long answer[8]);
 
 /* The word of a command, with 0 for the bits that may be anything.
@@ -124,8 +126,8 @@ void zhaqsumir_encode(const unsigned long command[6], unsigned long answer[3]);
 
 /* The samples that send rows of words to a chain of n chips.
  * words: count of them, row by row, chip 0 first in each row; 0 to 64 rows. They are left as they are.
- * out, room: the buffer and how many bytes it has. A row takes ZHAQSUMIR_ROW_SAMPLES(n) bytes, and the rows follow one another
- * from the front of out. Bytes past the written ones keep what they hold.
+ * out, room: the buffer and how many bytes it has. A row takes ZHAQSUMIR_ROW_SAMPLES(n) bytes, and all rows count / n times as
+ * many, one row after another from the front of out. Bytes past the written ones keep what they hold.
  * answer: the refusal, the place, the samples written.
  * Refused, where several hold the first of them: BAD_CHIPS (3); PART_ROW (4); MANY_ROWS (5); then, from the first word on, BAD_WORD
  * (6) or EARLY_KEYPAD (7), with the place of that word in words; SHORT_BUFFER (8). Then out is left whole as it was, and 0 samples
@@ -137,18 +139,23 @@ void zhaqsumir_write(unsigned long n, const unsigned short *words, unsigned long
  * levels: the sample before the block (ZHAQSUMIR_IDLE at the start). samples: count of them, left as they are.
  * answer: the refusal, the place, 1 where there is a rise and 0 where none, the place of the rise or 0, the samples passed: the
  * place of the rise plus 1, or count where there is none.
- * Refused: BAD_LEVELS (12) where levels are above 7; then BAD_SAMPLE (1), with the place of the lowest sample above 7, anywhere in
- * the block, after a rise too. Then no rise is reported and 0 passed. */
+ * Refused: BAD_LEVELS (12) where levels are above 7; then BAD_SAMPLE (1), with the lowest place of a sample above 7, anywhere in the
+ * block, after a rise too. Then no rise is reported and 0 passed.
+ * To go on after a rise: samples + passed, count - passed, and for levels the last sample passed, samples[passed - 1]. Places then
+ * count from there. */
 void zhaqsumir_find(unsigned char levels, const unsigned char *samples, unsigned long count, unsigned long answer[5]);
 
-/* What a capture text makes the chips do: for each LOAD rise and chip a line 10, for each recorded key a line 11, as document 01
- * has them under "Capture text".
- * text, length: the bytes of the text and how many; they are left as they are.
- * out: 1,179,661 bytes (ZHAQSUMIR_REPLAY_ROOM). The lines are written from its front, each ended by 0AH; the rest keeps what it
- * holds. No byte 0 is set at their end.
+/* What a capture text makes the chips do.
+ * text, length: the bytes of the text and how many; they are left as they are. A text is lines of upper-case hexadecimal, two
+ * digits a byte and nothing between, each ended by 0AH, the last too. The first line is 00 01 N. Every other line is 01 and 1 to 32
+ * samples, or 02, a chip below N and 8 scan bytes; byte d, bit s is the contact of DIG d and SEG s. The chips start as reset, the
+ * wires idle.
+ * out: 1,179,661 bytes (ZHAQSUMIR_REPLAY_ROOM), too many for most stacks. Lines of the same kind are written from its front: for
+ * each LOAD rise and chip from 0 up 10, chip, word (two bytes, high first); for each recorded key 11, chip, code; at a refusal 1F,
+ * number, line (four bytes, high first), and no more. The rest of out keeps what it holds; no byte 0 is set after the last line.
  * answer: the refusal that the text ended in, or 0; the number of the refused line from 1, or 0; the bytes written.
  * Refused: LONG_TEXT (11), with no line number, and out holds the line 1F0B00000000 alone. BAD_LINE (10), with the line number, and
- * out holds what the lines before it wrote and then a line 1F0A with the line number in four bytes. */
+ * out holds what the lines before it wrote and then 1F0A and that number. The bytes written count the refusal's line too. */
 void zhaqsumir_replay(const unsigned char *text, unsigned long length, unsigned char out[1179661], unsigned long answer[3]);
 
 #ifdef __cplusplus

@@ -1,5 +1,5 @@
-/* Words, the writer and the finder in plain C, from document 01 alone: its chapters "The words", "The writer and the finder" and
- * "Refusal numbers". Nothing here was taken from the proved code. */
+/* Words, the writer and the finder in plain C, from document 01: its chapters "The words", "The writer and the finder" and "Refusal
+ * numbers"; the numbers of the kinds are the header's. Nothing here was taken from the proved code. */
 #include "twin.h"
 
 /* ---- the words ---- */

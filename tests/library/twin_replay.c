@@ -1,4 +1,4 @@
-/* The replay of a capture text in plain C, from document 01 alone: its chapters "Samples and edges", "What commands do", "Key scans"
+/* The replay of a capture text in plain C, from document 01: its chapters "Samples and edges", "What commands do", "Key scans"
  * and "Capture text". The chips are whole, with their display and settings, though the output doesn't show these. Nothing here was
  * taken from the proved code. */
 #include "libc.h"
@@ -130,14 +130,16 @@ static void obey(struct chip *c)
 static int scan(struct chip *c, const unsigned char contacts[8])
 {
     unsigned char result = NONE;
-    int a, recorded = 0;
+    int a, d, wakes = 0, recorded = 0;
 
     for (a = 63; a >= 0; a--) {
         if (contacts[a % 8] >> a / 8 & 1)
             result = (unsigned char)a;
     }
+    for (d = 0; d < 8; d++)
+        wakes |= contacts[d] & 0x0F;                    /* SEG0 to SEG3 */
     if (c->asleep) {
-        if (result < 32) {                              /* on SEG0 to SEG3 */
+        if (wakes) {
             c->asleep = 0;
             c->last = NONE;
         }

@@ -36,7 +36,7 @@ pub fn is_valid(n: usize, chain: Chain) -> bool
     chain.levels <= 7
 }
 
-// Refusal 1's test: the lowest sample above 7.
+// Refusal 1's test: the lowest place of a sample above 7.
 pub fn checked(samples: &[u8]) -> Verdict
     ensures { λ r. ⌜ verdictTells r ≡ C.checkedFrom 0 (now (samples .entry)) ⌝ }
 {

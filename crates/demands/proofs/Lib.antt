@@ -14,6 +14,7 @@ pub mod Listed
 pub mod Exact
 pub mod ExactChain
 pub mod ExactWriter
+pub mod ExactLibrary
 pub mod Digits
 pub mod LineForms
 pub mod Outputs

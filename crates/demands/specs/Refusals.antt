@@ -3,7 +3,7 @@
 use mathlib.Core.Path.{_≡_}
 use mathlib.Core.Bool.{true}
 use mathlib.Core.Logic.{_⊎_}
-use mathlib.Core.List.{List}
+use mathlib.Core.List.{List, [], _∷_}
 use Prim.Native.Nat.{ℕ, _+_, _*_, _-_, _/_, _%_, _<_, _≤_}
 use lib.ListN.{length, getD}
 use Rattle.word.specs.declared.System.{System}
@@ -14,6 +14,7 @@ use Rattle.chip.specs.declared.Chip.{Chip}
 use Rattle.chip.specs.Record.{none}
 use Rattle.chain.specs.declared.Chain.{Chain}
 use Rattle.chain.specs.Entries.{chipAt}
+use Rattle.zhaqsumir.specs.Ranges.{ranges}
 
 -- 1: a sample is above 7
 abbrev pub SampleAbove7 : ℕ → Type 0
@@ -62,6 +63,16 @@ OutOfRange (DisplayParameters d) = 7 < d .limit
 OutOfRange (BlinkByte byte) = 255 < byte
 OutOfRange ReadKey = ⊥
 OutOfRange (LoadDigit dig byte) = (7 < dig) ⊎ (255 < byte)
+
+-- a field is above the most that it may be; further fields are not looked at
+abbrev pub Above : List ℕ → List ℕ → Type 0
+Above [] fields = ⊥
+Above (most ∷ mosts) [] = Unit {0}
+Above (most ∷ mosts) (field ∷ fields) = (most < field) ⊎ Above mosts fields
+
+-- 9, of a command that is given as numbers: there is no such kind, or a field that the kind has is out of range
+abbrev pub NumbersOutOfRange : ℕ → List ℕ → Type 0
+NumbersOutOfRange kind fields = (15 < kind) ⊎ Above (getD ranges kind []) fields
 
 -- a listed word is, but for its x bits, the word of a command with no field out of range
 abbrev pub Listed : ℕ → Type 0

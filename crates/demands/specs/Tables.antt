@@ -1,7 +1,7 @@
 -- Document 01, "Refusal numbers": the table of each entry, its refusals in document 01's order: 3, 12, 9, then 4, 5, then words
 -- from the first on (6 before 7; the place is named), then 8; samples and a scan's chip after 3 and 12. A table has the refusals
--- that the entry's arguments can give rise to. proofs/Exact.antt, ExactChain.antt and ExactWriter.antt prove that each entry keeps to
--- its table; a text's table is in specs/Texts.antt.
+-- that the entry's arguments can give rise to. proofs/Exact.antt, ExactChain.antt, ExactWriter.antt and ExactLibrary.antt prove that each
+-- entry keeps to its table; a text's table is in specs/Texts.antt.
 -- Assumes nothing.
 use mathlib.Core.Logic.{_⊎_}
 use mathlib.Core.List.{List, [], _∷_, _++_}
@@ -10,7 +10,7 @@ use Rattle.word.specs.declared.Command.{Command}
 use Rattle.chip.specs.declared.Chip.{Chip}
 use Rattle.chain.specs.declared.Chain.{Chain}
 use Rattle.demands.specs.Exact.{Row, names, row, each}
-use Rattle.demands.specs.Refusals.{SampleAbove7, ChipNotBelow, NotOneToEight, NotMultiple, MoreThan64Rows, OutOfRange, Unlisted, KeypadBeforeLast, BufferShort, Unheld, LevelsAbove7, UnheldChain}
+use Rattle.demands.specs.Refusals.{SampleAbove7, ChipNotBelow, NotOneToEight, NotMultiple, MoreThan64Rows, OutOfRange, NumbersOutOfRange, Unlisted, KeypadBeforeLast, BufferShort, Unheld, LevelsAbove7, UnheldChain}
 
 -- ---- words
 
@@ -21,6 +21,10 @@ decodeTable w = row 6 (Unlisted w) ∷ []
 -- word::encode
 abbrev pub encodeTable : Command → List Row
 encodeTable command = row 9 (OutOfRange command) ∷ []
+
+-- zhaqsumir::zhaqsumir_encode, of a kind and its fields
+abbrev pub numbersTable : ℕ → List ℕ → List Row
+numbersTable kind fields = row 9 (NumbersOutOfRange kind fields) ∷ []
 
 -- ---- one chip
 

@@ -35,7 +35,8 @@ numbersOf (BlinkByte byte) = six 13 byte 0 0 0 0
 numbersOf ReadKey = six 14 0 0 0 0 0
 numbersOf (LoadDigit dig byte) = six 15 dig byte 0 0 0
 
--- what is made of a number that fits its field, at most so large; refusal 9 for another
+-- what is made of a number that the command can hold, at most 1 for a bit and 255 for a byte; refusal 9 for another. A field's own
+-- range is `legal`, in `encodedOf`; both together: specs/Ranges.antt
 abbrev pub fits : ℕ → ℕ → Told Command → Told Command
 fits most n made = pick (leb n most) made (refused 9 0)
 

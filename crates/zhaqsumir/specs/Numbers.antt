@@ -1,5 +1,5 @@
 -- Which number stands where in the answers: a refusal's number and place by document 01 (0 and 0 where there is none), then the
--- answer's own numbers, zeros where it is refused.
+-- answer's own numbers, zeros where it is refused; but a replay counts the bytes that it wrote either way, its refusal's line included.
 -- Assumes nothing.
 use mathlib.Core.Path.{_≡_}
 use Prim.Native.Nat.{ℕ}
@@ -62,7 +62,7 @@ abbrev pub encodeNumbers : List ℕ → List ℕ
 encodeNumbers six = alone (encodedBy (commandIn six))
 
 -- what `zhaqsumir_write` does: its answer, and the buffer as the writer leaves it
-pub record Writes (n : ℕ) (words out : List ℕ) (answer out′ : List ℕ) : Type 0 where
+pub record WritesNumbers (n : ℕ) (words out : List ℕ) (answer out′ : List ℕ) : Type 0 where
   pub numbers : answer ≡ alone (answerOf n words out)
   pub bytes : out′ ≡ bytesBy (answerOf n words out) (written n words) out
 
@@ -91,6 +91,6 @@ abbrev pub replayBy : Told (Unit {0}) → ℕ → List ℕ
 replayBy t bytes = numberIn t ∷ placeIn t ∷ bytes ∷ []
 
 -- what `zhaqsumir_replay` does: its answer, and the array, with the output at its front
-pub record Replays (text out : List ℕ) (answer out′ : List ℕ) : Type 0 where
+pub record ReplaysNumbers (text out : List ℕ) (answer out′ : List ℕ) : Type 0 where
   pub numbers : answer ≡ replayBy (endOf text) (length (outputOf Words text))
   pub bytes : out′ ≡ laid (outputOf Words text) out

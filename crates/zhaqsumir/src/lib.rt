@@ -1,5 +1,6 @@
 // The till's own library: the proved functions for C to link. Each takes numbers and slices, and answers by numbers in a lent
-// array: a refusal's number and place, 0 and 0 where there is none, then the answer, zeros where it is refused.
+// array: a refusal's number and place, 0 and 0 where there is none, then the answer, zeros where it is refused. A replay counts
+// the bytes that it wrote either way.
 // include/zhaqsumir.h is their header.
 mod commands;
 
@@ -192,7 +193,7 @@ pub extern "C" fn zhaqsumir_encode(command: &[u64; 6], answer: &mut [u64; 3])
 // Writes rows of words, chip 0 first in each row: number, place, how many samples.
 #[no_mangle]
 pub extern "C" fn zhaqsumir_write(n: usize, words: &[u16], out: &mut [u8], answer: &mut [u64; 3])
-    ensures { λ _. ⌜ N.Writes n (now (words .entry)) (now (out .entry)) (now (answer .exit)) (now (out .exit)) ⌝ }
+    ensures { λ _. ⌜ N.WritesNumbers n (now (words .entry)) (now (out .entry)) (now (answer .exit)) (now (out .exit)) ⌝ }
 {
     *answer = written(writer::write(n, words, out));
 }
@@ -208,7 +209,7 @@ pub extern "C" fn zhaqsumir_find(levels: u8, samples: &[u8], answer: &mut [u64; 
 // Replays a capture text: number, line, how many bytes stand at the front of `out`.
 #[no_mangle]
 pub extern "C" fn zhaqsumir_replay(text: &[u8], out: &mut [u8; 1179661], answer: &mut [u64; 3])
-    ensures { λ _. ⌜ N.Replays (now (text .entry)) (now (out .entry)) (now (answer .exit)) (now (out .exit)) ⌝ }
+    ensures { λ _. ⌜ N.ReplaysNumbers (now (text .entry)) (now (out .entry)) (now (answer .exit)) (now (out .exit)) ⌝ }
 {
     *answer = replayed(capture::replay(text, out));
 }
