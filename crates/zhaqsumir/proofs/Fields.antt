@@ -1,9 +1,9 @@
 -- Laws of commands given as numbers.
 --     fits-in, fits-out     a field that fits, and one that doesn't
---     other-kind            a kind that isn't the one asked for
+--     of-kind, other-kind   a kind that is the one asked for, and one that isn't
 --     no-such-kind          refusal 9 for every kind above 15, whatever the fields
 -- Assumes nothing.
-use mathlib.Core.Path.{_≡_, refl, sym, _∙_}
+use mathlib.Core.Path.{_≡_, refl, ap, sym, _∙_}
 use Prim.Native.Nat.{ℕ, _≤_, _<_}
 use lib.Dec.{eqb}
 use native.Mathlib.Omega.{arith}
@@ -13,7 +13,7 @@ use Rattle.base.specs.Refusals.{Told, refused}
 use Rattle.base.proofs.Picks.{pick-yes, pick-no}
 use Rattle.base.proofs.Tests.{by-order}
 use Rattle.word.specs.declared.Command.{Command}
-use Rattle.zhaqsumir.specs.Commands.{fits, withByte, commandFrom}
+use Rattle.zhaqsumir.specs.Commands.{fits, commandFrom}
 
 pub fits-in : {most n : ℕ} {t made : Told Command} → n ≤ most → t ≡ made → t ≡ fits most n made
 fits-in {most} {n} h e = e ∙ sym (pick-yes _ _ (le-leb n most h))
@@ -21,17 +21,16 @@ fits-in {most} {n} h e = e ∙ sym (pick-yes _ _ (le-leb n most h))
 pub fits-out : {most n : ℕ} (made : Told Command) → most < n → refused 9 0 ≡ fits most n made
 fits-out {most} {n} made h = sym (pick-no _ _ (lt-leb n most h))
 
+pub of-kind : {t : Told Command} (k kind a b c d e : ℕ) → kind ≡ k → t ≡ commandFrom k a b c d e → t ≡ commandFrom kind a b c d e
+of-kind k kind a b c d e q is = is ∙ ap (λ (n : ℕ). commandFrom n a b c d e) (sym q)
+
 pub other-kind : {kind k : ℕ} {t y : Told Command} (x : Told Command) → (kind ≡ k → ⊥) → t ≡ y → t ≡ pick (eqb kind k) x y
 other-kind {kind} {k} x ne e = e ∙ sym (pick-no _ _ (ne-eqb kind k ne))
 
--- what is refused either way
-fits-either : (most n : ℕ) {made : Told Command} → refused 9 0 ≡ made → refused 9 0 ≡ fits most n made
-fits-either most n {made} e = by-order n most (λ h. fits-in h e) (fits-out made)
-
 pub no-such-kind : (kind a b c d e : ℕ) → 15 < kind → refused 9 0 ≡ commandFrom kind a b c d e
-unfolding commandFrom withByte
+unfolding commandFrom
 no-such-kind kind a b c d e h =
-    other-kind _ (not 0 (omega arith)) (other-kind _ (not 4 (omega arith)) (other-kind _ (not 5 (omega arith)) (other-kind _ (not 6 (omega arith)) (other-kind _ (not 7 (omega arith)) (other-kind _ (not 8 (omega arith)) (other-kind _ (not 9 (omega arith)) (other-kind _ (not 11 (omega arith)) (other-kind _ (not 12 (omega arith)) (other-kind _ (not 14 (omega arith)) (other-kind _ (not 15 (omega arith)) (fits-either 255 a (other-kind _ (not 1 (omega arith)) (other-kind _ (not 2 (omega arith)) (other-kind _ (not 3 (omega arith)) (other-kind _ (not 10 (omega arith)) (other-kind _ (not 13 (omega arith)) refl))))))))))))))))
+    other-kind _ (not 0 (omega arith)) (other-kind _ (not 1 (omega arith)) (other-kind _ (not 2 (omega arith)) (other-kind _ (not 3 (omega arith)) (other-kind _ (not 4 (omega arith)) (other-kind _ (not 5 (omega arith)) (other-kind _ (not 6 (omega arith)) (other-kind _ (not 7 (omega arith)) (other-kind _ (not 8 (omega arith)) (other-kind _ (not 9 (omega arith)) (other-kind _ (not 10 (omega arith)) (other-kind _ (not 11 (omega arith)) (other-kind _ (not 12 (omega arith)) (other-kind _ (not 13 (omega arith)) (other-kind _ (not 14 (omega arith)) (other-kind _ (not 15 (omega arith)) refl)))))))))))))))
   where
     not : (k : ℕ) → k ≤ 15 → kind ≡ k → ⊥
     not k l e = omega arith

@@ -12,15 +12,13 @@ use native.Mathlib.Omega.{arith}
 use borrow.Author.Tests.{le-leb, lt-leb}
 use lib.Dec.{eqb, leb}
 use lib.ListN.{getD}
-use Rattle.base.specs.Bits.{digit}
-use Rattle.base.specs.Pick.{pick}
 use Rattle.base.specs.Refusals.{Told, done, refused}
 use Rattle.base.proofs.Picks.{pick-yes, pick-no}
 use Rattle.base.proofs.Tests.{by-order, by-equality, past}
 use Rattle.word.specs.declared.Command.{Command}
 use Rattle.word.specs.declared.Command.the-variants.{NoOperation, BarLevel, SegmentClear, SegmentSet, Reset, Sleep, ShiftLeft, ShiftRight, RotateLeft, RotateRight, CustomCharacter, SystemParameters, DisplayParameters, BlinkByte, ReadKey, LoadDigit}
 use Rattle.word.specs.Words.{encodedOf, wordOf, legal}
-use Rattle.zhaqsumir.specs.Commands.{fits, withByte, commandFrom}
+use Rattle.zhaqsumir.specs.Commands.{fits, commandFrom}
 use Rattle.zhaqsumir.specs.Numbers.{encodedBy}
 use Rattle.zhaqsumir.specs.Ranges.{ranges, within, inRange}
 use Rattle.zhaqsumir.proofs.Fields.{fits-in, fits-out, no-such-kind}
@@ -86,15 +84,15 @@ module _ (a b c d e : ℕ) where
   kind-0 = legal-word NoOperation refl
 
   kind-1 : Kind 1
-  unfolding commandFrom withByte
+  unfolding commandFrom
   kind-1 = one-byte 64 a (BarLevel a) refl (omega arith)
 
   kind-2 : Kind 2
-  unfolding commandFrom withByte
+  unfolding commandFrom
   kind-2 = one-byte 63 a (SegmentClear a) refl (omega arith)
 
   kind-3 : Kind 3
-  unfolding commandFrom withByte
+  unfolding commandFrom
   kind-3 = one-byte 63 a (SegmentSet a) refl (omega arith)
 
   kind-4 : Kind 4
@@ -122,7 +120,7 @@ module _ (a b c d e : ℕ) where
   kind-9 = legal-word RotateRight refl
 
   kind-10 : Kind 10
-  unfolding commandFrom withByte
+  unfolding commandFrom
   kind-10 = one-byte 127 a (CustomCharacter a) refl (omega arith)
 
   kind-11 : Kind 11
@@ -135,7 +133,7 @@ module _ (a b c d e : ℕ) where
   kind-12 = one-bit a _ _ (one-byte 7 b (DisplayParameters (record { mode = eqb a 1; limit = b })) refl (omega arith))
 
   kind-13 : Kind 13
-  unfolding commandFrom withByte
+  unfolding commandFrom
   kind-13 = one-byte 255 a (BlinkByte a) refl (omega arith)
 
   kind-14 : Kind 14

@@ -17,7 +17,7 @@ use Rattle.word.specs.declared.Command.{Command}
 use Rattle.word.specs.declared.Command.the-variants.{NoOperation, BarLevel, SegmentClear, SegmentSet, Reset, Sleep, ShiftLeft, ShiftRight, RotateLeft, RotateRight, CustomCharacter, SystemParameters, DisplayParameters, BlinkByte, ReadKey, LoadDigit}
 use Rattle.word.specs.Words.{decodedOf, encodedOf, wordOf, legal, plain}
 use Rattle.word.proofs.RoundTrips.{word-back, meaning-legal}
-use Rattle.zhaqsumir.specs.Commands.{numbersOf, commandFrom, commandIn, withByte}
+use Rattle.zhaqsumir.specs.Commands.{numbersOf, commandFrom, commandIn}
 use Rattle.zhaqsumir.specs.Numbers.{alone, encodedBy, encodeNumbers}
 use Rattle.zhaqsumir.proofs.Fields.{fits-in}
 
@@ -32,7 +32,7 @@ small : {most : ℕ} (n : ℕ) → most ≤ 255 → T (leb n most) → n ≤ 255
 small {most} n h t = let l = leb→le n most t in omega arith
 
 pub numbers-back : (c : Command) → T (legal c) → commandIn (numbersOf c) ≡ done c
-unfolding commandFrom withByte
+unfolding commandFrom
 numbers-back NoOperation t = refl
 numbers-back (BarLevel level) t = sym (fits-in (small level (omega arith) t) refl)
 numbers-back (SegmentClear addr) t = sym (fits-in (small addr (omega arith) t) refl)

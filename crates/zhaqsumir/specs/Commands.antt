@@ -40,17 +40,9 @@ numbersOf (LoadDigit dig byte) = six 15 dig byte 0 0 0
 abbrev pub fits : ℕ → ℕ → Told Command → Told Command
 fits most n made = pick (leb n most) made (refused 9 0)
 
--- the kinds with one field; refusal 9 where there is no such kind
-unfoldable pub withByte : ℕ → ℕ → Told Command
-withByte kind a =
-    pick (eqb kind 1) (done (BarLevel a))
-    (pick (eqb kind 2) (done (SegmentClear a))
-    (pick (eqb kind 3) (done (SegmentSet a))
-    (pick (eqb kind 10) (done (CustomCharacter a)) (pick (eqb kind 13) (done (BlinkByte a)) (refused 9 0)))))
-
--- a field of one byte
-abbrev pub byteFrom : ℕ → ℕ → Told Command
-byteFrom kind a = fits 255 a (withByte kind a)
+-- a kind with one field, a byte
+abbrev pub oneByte : (ℕ → Command) → ℕ → Told Command
+oneByte kind a = fits 255 a (done (kind a))
 
 -- system parameters: five bits
 abbrev pub systemFrom : ℕ → ℕ → ℕ → ℕ → ℕ → Told Command
@@ -74,20 +66,39 @@ digitFrom a b = fits 255 a (fits 255 b (done (LoadDigit a b)))
 unfoldable pub commandFrom : ℕ → ℕ → ℕ → ℕ → ℕ → ℕ → Told Command
 commandFrom kind a b c d e =
     pick (eqb kind 0) (done NoOperation)
+    (pick (eqb kind 1) (oneByte BarLevel a)
+    (pick (eqb kind 2) (oneByte SegmentClear a)
+    (pick (eqb kind 3) (oneByte SegmentSet a)
     (pick (eqb kind 4) (done Reset)
     (pick (eqb kind 5) (done Sleep)
     (pick (eqb kind 6) (done ShiftLeft)
     (pick (eqb kind 7) (done ShiftRight)
     (pick (eqb kind 8) (done RotateLeft)
     (pick (eqb kind 9) (done RotateRight)
+    (pick (eqb kind 10) (oneByte CustomCharacter a)
     (pick (eqb kind 11) (systemFrom a b c d e)
-    (pick (eqb kind 12) (displayFrom a b) (pick (eqb kind 14) (done ReadKey) (pick (eqb kind 15) (digitFrom a b) (byteFrom kind a)))))))))))
+    (pick (eqb kind 12) (displayFrom a b)
+    (pick (eqb kind 13) (oneByte BlinkByte a)
+    (pick (eqb kind 14) (done ReadKey) (pick (eqb kind 15) (digitFrom a b) (refused 9 0))))))))))))))))
 
 -- the command of six numbers
 abbrev pub commandIn : List ℕ → Told Command
 commandIn six = commandFrom (getD six 0 0) (getD six 1 0) (getD six 2 0) (getD six 3 0) (getD six 4 0) (getD six 5 0)
 
--- what the code has of it
+-- ---- what the code's own functions promise to one another
+
+-- the kinds with one field, a byte, by themselves
+unfoldable pub withByte : ℕ → ℕ → Told Command
+withByte kind a =
+    pick (eqb kind 1) (done (BarLevel a))
+    (pick (eqb kind 2) (done (SegmentClear a))
+    (pick (eqb kind 3) (done (SegmentSet a))
+    (pick (eqb kind 10) (done (CustomCharacter a)) (pick (eqb kind 13) (done (BlinkByte a)) (refused 9 0)))))
+
+abbrev pub byteFrom : ℕ → ℕ → Told Command
+byteFrom kind a = fits 255 a (withByte kind a)
+
+-- what the code has of a command
 abbrev pub givenTells : Given → Told Command
 givenTells (G.Is c) = done c
 givenTells G.Refused = refused 9 0

@@ -137,16 +137,21 @@ pub(crate) fn command_from(kind: u64, a: u64, b: u64, c: u64, d: u64, e: u64) ->
 {
     match kind {
         0 => Given::Is(Command::NoOperation),
+        1 => byte_from(1, a),
+        2 => byte_from(2, a),
+        3 => byte_from(3, a),
         4 => Given::Is(Command::Reset),
         5 => Given::Is(Command::Sleep),
         6 => Given::Is(Command::ShiftLeft),
         7 => Given::Is(Command::ShiftRight),
         8 => Given::Is(Command::RotateLeft),
         9 => Given::Is(Command::RotateRight),
+        10 => byte_from(10, a),
         11 => system_from(a, b, c, d, e),
         12 => display_from(a, b),
+        13 => byte_from(13, a),
         14 => Given::Is(Command::ReadKey),
         15 => digit_from(a, b),
-        _ => byte_from(kind, a),
+        _ => Given::Refused,
     }
 }

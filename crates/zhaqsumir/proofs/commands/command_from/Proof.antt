@@ -1,10 +1,9 @@
 -- `zhaqsumir::commands::command_from` meets its contract: the number matched is the kind.
 -- Assumes nothing.
-use mathlib.Core.Path.{_≡_, ap, sym, _∙_}
-use Prim.Native.Nat.{ℕ}
+use mathlib.Core.Path.{refl}
 use native.Mathlib.Omega.{arith}
-use Rattle.zhaqsumir.specs.Commands.{commandFrom}
-use Rattle.zhaqsumir.proofs.Fields.{other-kind}
+use Rattle.zhaqsumir.specs.Commands.{commandFrom, withByte}
+use Rattle.zhaqsumir.proofs.Fields.{of-kind, other-kind}
 use borrow.Author.Needs.{needs}
 use Rattle.zhaqsumir.proofs.commands.command_from.Statement.{statement}
 use Rattle.zhaqsumir.proofs.commands.command_from.Tie as tie
@@ -13,89 +12,112 @@ returns : tie.Need-returns
 unfolding commandFrom
 returns c =
     let a = c .before .args in
-    let e : a .kind ≡ 0 = omega arith in
-    ap (λ (k : ℕ). commandFrom k (a .a) (a .b) (a .c) (a .d) (a .e)) (sym e)
+    of-kind 0 (a .kind) (a .a) (a .b) (a .c) (a .d) (a .e) (omega arith) refl
 
 returns-2 : tie.Need-returns-2
-unfolding commandFrom
+unfolding commandFrom withByte
 returns-2 c =
-    let a = c .before .args in
-    let e : a .kind ≡ 4 = omega arith in
-    ap (λ (k : ℕ). commandFrom k (a .a) (a .b) (a .c) (a .d) (a .e)) (sym e)
+    let a = c .before .before .args in
+    of-kind 1 (a .kind) (a .a) (a .b) (a .c) (a .d) (a .e) (omega arith) (c .byte-from .ensures)
 
 returns-3 : tie.Need-returns-3
-unfolding commandFrom
+unfolding commandFrom withByte
 returns-3 c =
-    let a = c .before .args in
-    let e : a .kind ≡ 5 = omega arith in
-    ap (λ (k : ℕ). commandFrom k (a .a) (a .b) (a .c) (a .d) (a .e)) (sym e)
+    let a = c .before .before .args in
+    of-kind 2 (a .kind) (a .a) (a .b) (a .c) (a .d) (a .e) (omega arith) (c .byte-from2 .ensures)
 
 returns-4 : tie.Need-returns-4
-unfolding commandFrom
+unfolding commandFrom withByte
 returns-4 c =
-    let a = c .before .args in
-    let e : a .kind ≡ 6 = omega arith in
-    ap (λ (k : ℕ). commandFrom k (a .a) (a .b) (a .c) (a .d) (a .e)) (sym e)
+    let a = c .before .before .args in
+    of-kind 3 (a .kind) (a .a) (a .b) (a .c) (a .d) (a .e) (omega arith) (c .byte-from3 .ensures)
 
 returns-5 : tie.Need-returns-5
 unfolding commandFrom
 returns-5 c =
     let a = c .before .args in
-    let e : a .kind ≡ 7 = omega arith in
-    ap (λ (k : ℕ). commandFrom k (a .a) (a .b) (a .c) (a .d) (a .e)) (sym e)
+    of-kind 4 (a .kind) (a .a) (a .b) (a .c) (a .d) (a .e) (omega arith) refl
 
 returns-6 : tie.Need-returns-6
 unfolding commandFrom
 returns-6 c =
     let a = c .before .args in
-    let e : a .kind ≡ 8 = omega arith in
-    ap (λ (k : ℕ). commandFrom k (a .a) (a .b) (a .c) (a .d) (a .e)) (sym e)
+    of-kind 5 (a .kind) (a .a) (a .b) (a .c) (a .d) (a .e) (omega arith) refl
 
 returns-7 : tie.Need-returns-7
 unfolding commandFrom
 returns-7 c =
     let a = c .before .args in
-    let e : a .kind ≡ 9 = omega arith in
-    ap (λ (k : ℕ). commandFrom k (a .a) (a .b) (a .c) (a .d) (a .e)) (sym e)
+    of-kind 6 (a .kind) (a .a) (a .b) (a .c) (a .d) (a .e) (omega arith) refl
 
 returns-8 : tie.Need-returns-8
 unfolding commandFrom
 returns-8 c =
-    let a = c .before .before .args in
-    let e : a .kind ≡ 11 = omega arith in
-    c .system-from .ensures ∙ ap (λ (k : ℕ). commandFrom k (a .a) (a .b) (a .c) (a .d) (a .e)) (sym e)
+    let a = c .before .args in
+    of-kind 7 (a .kind) (a .a) (a .b) (a .c) (a .d) (a .e) (omega arith) refl
 
 returns-9 : tie.Need-returns-9
 unfolding commandFrom
 returns-9 c =
-    let a = c .before .before .args in
-    let e : a .kind ≡ 12 = omega arith in
-    c .display-from .ensures ∙ ap (λ (k : ℕ). commandFrom k (a .a) (a .b) (a .c) (a .d) (a .e)) (sym e)
+    let a = c .before .args in
+    of-kind 8 (a .kind) (a .a) (a .b) (a .c) (a .d) (a .e) (omega arith) refl
 
 returns-10 : tie.Need-returns-10
 unfolding commandFrom
 returns-10 c =
     let a = c .before .args in
-    let e : a .kind ≡ 14 = omega arith in
-    ap (λ (k : ℕ). commandFrom k (a .a) (a .b) (a .c) (a .d) (a .e)) (sym e)
+    of-kind 9 (a .kind) (a .a) (a .b) (a .c) (a .d) (a .e) (omega arith) refl
 
 returns-11 : tie.Need-returns-11
-unfolding commandFrom
+unfolding commandFrom withByte
 returns-11 c =
     let a = c .before .before .args in
-    let e : a .kind ≡ 15 = omega arith in
-    c .digit-from .ensures ∙ ap (λ (k : ℕ). commandFrom k (a .a) (a .b) (a .c) (a .d) (a .e)) (sym e)
+    of-kind 10 (a .kind) (a .a) (a .b) (a .c) (a .d) (a .e) (omega arith) (c .byte-from4 .ensures)
 
 returns-12 : tie.Need-returns-12
 unfolding commandFrom
 returns-12 c =
-    let m = c .before .match .rest in
-    other-kind _ (m .0 .0 .0 .0 .0 .0 .0 .0 .0 .0 .1) (other-kind _ (m .0 .0 .0 .0 .0 .0 .0 .0 .0 .1) (other-kind _ (m .0 .0 .0 .0 .0 .0 .0 .0 .1) (other-kind _ (m .0 .0 .0 .0 .0 .0 .0 .1) (other-kind _ (m .0 .0 .0 .0 .0 .0 .1) (other-kind _ (m .0 .0 .0 .0 .0 .1) (other-kind _ (m .0 .0 .0 .0 .1) (other-kind _ (m .0 .0 .0 .1) (other-kind _ (m .0 .0 .1) (other-kind _ (m .0 .1) (other-kind _ (m .1) (c .byte-from .ensures)))))))))))
+    let a = c .before .before .args in
+    of-kind 11 (a .kind) (a .a) (a .b) (a .c) (a .d) (a .e) (omega arith) (c .system-from .ensures)
+
+returns-13 : tie.Need-returns-13
+unfolding commandFrom
+returns-13 c =
+    let a = c .before .before .args in
+    of-kind 12 (a .kind) (a .a) (a .b) (a .c) (a .d) (a .e) (omega arith) (c .display-from .ensures)
+
+returns-14 : tie.Need-returns-14
+unfolding commandFrom withByte
+returns-14 c =
+    let a = c .before .before .args in
+    of-kind 13 (a .kind) (a .a) (a .b) (a .c) (a .d) (a .e) (omega arith) (c .byte-from5 .ensures)
+
+returns-15 : tie.Need-returns-15
+unfolding commandFrom
+returns-15 c =
+    let a = c .before .args in
+    of-kind 14 (a .kind) (a .a) (a .b) (a .c) (a .d) (a .e) (omega arith) refl
+
+returns-16 : tie.Need-returns-16
+unfolding commandFrom
+returns-16 c =
+    let a = c .before .before .args in
+    of-kind 15 (a .kind) (a .a) (a .b) (a .c) (a .d) (a .e) (omega arith) (c .digit-from .ensures)
+
+returns-17 : tie.Need-returns-17
+unfolding commandFrom
+returns-17 c =
+    let m = c .match .rest in
+    other-kind _ (m .0 .0 .0 .0 .0 .0 .0 .0 .0 .0 .0 .0 .0 .0 .0 .1) (other-kind _ (m .0 .0 .0 .0 .0 .0 .0 .0 .0 .0 .0 .0 .0 .0 .1) (other-kind _ (m .0 .0 .0 .0 .0 .0 .0 .0 .0 .0 .0 .0 .0 .1) (other-kind _ (m .0 .0 .0 .0 .0 .0 .0 .0 .0 .0 .0 .0 .1) (other-kind _ (m .0 .0 .0 .0 .0 .0 .0 .0 .0 .0 .0 .1) (other-kind _ (m .0 .0 .0 .0 .0 .0 .0 .0 .0 .0 .1) (other-kind _ (m .0 .0 .0 .0 .0 .0 .0 .0 .0 .1) (other-kind _ (m .0 .0 .0 .0 .0 .0 .0 .0 .1) (other-kind _ (m .0 .0 .0 .0 .0 .0 .0 .1) (other-kind _ (m .0 .0 .0 .0 .0 .0 .1) (other-kind _ (m .0 .0 .0 .0 .0 .1) (other-kind _ (m .0 .0 .0 .0 .1) (other-kind _ (m .0 .0 .0 .1) (other-kind _ (m .0 .0 .1) (other-kind _ (m .0 .1) (other-kind _ (m .1) refl)))))))))))))))
 
 pub command-from-spec : {M : Type 1} → statement M
 command-from-spec =
     tie.close
     (tie.spec
+    (λ c κs. search needs)
+    (λ c κs. search needs)
+    (λ c κs. search needs)
+    (λ c κs. search needs)
     (λ c κs. search needs)
     (λ c κs. search needs)
     (λ c κs. search needs)
@@ -111,4 +133,9 @@ command-from-spec =
     returns-9
     returns-10
     returns-11
-    returns-12)
+    returns-12
+    returns-13
+    returns-14
+    returns-15
+    returns-16
+    returns-17)
