@@ -17,7 +17,7 @@ use lib.ListN.{getD, set, replicate}
 use Rattle.base.specs.Pick.{pick}
 use Rattle.base.specs.Refusals.{Told, done, refused, handsBack}
 use Rattle.base.proofs.Picks.{pick-yes}
-use Rattle.base.proofs.Tests.{and-left, and-right, and-both}
+use Rattle.base.proofs.Tests.{and-left, and-right, and-both, is-true}
 use Rattle.chip.specs.declared.Chip.{Chip}
 use Rattle.chip.specs.Record.{valid, resetChip}
 use Rattle.chip.specs.Scans.{scanned, recorded}
@@ -58,11 +58,7 @@ start-tested n count = tests-pass n startChain count (start-valid n)
 
 pub start-done : (n : ℕ) → T (chipCount n) → startedOf n ≡ record { state = startChain; told = done tt }
 unfolding startedOf
-start-done n count = pick-yes _ _ (passes (chipCount n) count)
-  where
-    passes : (b : Bool) → T b → b ≡ true
-    passes true t = refl
-    passes false t = absurd t
+start-done n count = pick-yes _ _ (is-true (chipCount n) count)
 
 -- ---- samples and scans
 

@@ -39,8 +39,8 @@ use Rattle.writer.specs.Written as Writer
 use Rattle.writer.proofs.Stretches.{samples-length}
 use Rattle.demands.specs.Events.{Event, sample, happened, samplesIn, ScansBelow, rowsAfter}
 use Rattle.demands.specs.Events as Events
-use Rattle.demands.specs.Demand3.{Asked}
-use Rattle.demands.specs.Calls.{Call, play, scan, eventsOf, blocksOf, Ran, over, played, scanned, AllDone, AskedChain, AsTold, Demand3OfCalls, CallsRun}
+use Rattle.demands.specs.Demand3.{AskedChain, Asked}
+use Rattle.demands.specs.Calls.{Call, play, scan, eventsOf, blocksOf, Ran, over, played, scanned, AllDone, AsTold, Demand3OfCalls, CallsRun}
 use Rattle.demands.proofs.Writes.{Writes}
 use Rattle.demands.proofs.Going.{Going, rowsLeft, going-on}
 use Rattle.demands.proofs.Demand3 as Three
@@ -168,24 +168,10 @@ module _ (n : ℕ) (fits : n ≤ most) (count : T (chipCount n)) where
 
 -- ---- the theorem
 
--- a chain as asked, and a list that is accepted
-asked-list : (n : ℕ) (ch : Chain) (ws : List ℕ) → AskedChain n ch → listTest n ws ≡ done tt → Asked n ch ws
-asked-list n ch ws a accepted =
-    record {
-      count = a .count;
-      places = a .places;
-      valid = a .valid;
-      lines = a .lines;
-      dclkHigh = a .dclkHigh;
-      loadHigh = a .loadHigh;
-      keypad = a .keypad;
-      accepted = accepted;
-    }
-
 module _ (n : ℕ) (ch : Chain) (ws : List ℕ) (a : AskedChain n ch) (part : List ℕ) (accepted : listTest n ws ≡ done tt) (same : part ≡ written n ws) where
   -- what demand 3 asks
   asked : Asked n ch ws
-  asked = asked-list n ch ws a accepted
+  asked = record { chain = a; accepted = accepted }
 
   -- the chain with the blocks and the rest to come is one in the middle of a write
   blocks-begin : (calls : List Call) (rest : List ℕ) → blocksOf calls ++ rest ≡ part → Going n most ch (rowsOf n ws) (blocksOf calls ++ rest)

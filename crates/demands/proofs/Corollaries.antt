@@ -100,12 +100,14 @@ pub premises-again : PremisesAgain
 premises-again n ch ws asked es whole vs accepted =
     let g = in-between n ch ws asked es [] (append-nil (samplesIn es) ∙ whole) in
     record {
-      count = asked .count;
-      places = g .standing .size;
-      valid = g .standing .valid;
-      lines = g .standing .lines;
-      dclkHigh = g .writes .1;
-      loadHigh = g .writes .2;
-      keypad = g .standing .keypad;
+      chain = record {
+        count = asked .chain .count;
+        places = g .standing .size;
+        valid = g .standing .valid;
+        lines = g .standing .lines;
+        dclkHigh = g .writes .1;
+        loadHigh = g .writes .2;
+        keypad = g .standing .keypad;
+      };
       accepted = accepted;
     }

@@ -31,20 +31,20 @@ registers-held (suc n) (c ∷ cs) = ap (λ rs. c .line .register ∷ rs) (regist
 
 module _ (n : ℕ) (ch : Chain) (ws : List ℕ) (asked : Asked n ch ws) where
   pub room : n ≤ most
-  room = count-high n (asked .count)
+  room = count-high n (asked .chain .count)
 
   pub begins : (ss : List ℕ) → ss ≡ written n ws → Going n most ch (rowsOf n ws) ss
   begins ss whole =
       let fit = rows-accepted n ws (asked .accepted) in
       let same = registers-held n (ch .chips) in
       record {
-        standing = record { size = asked .places; lines = asked .lines; valid = asked .valid; keypad = asked .keypad };
+        standing = record { size = asked .chain .places; lines = asked .chain .lines; valid = asked .chain .valid; keypad = asked .chain .keypad };
         fit = fit;
         writes =
             subst (Writes (ch .levels) (held n (ch .chips)) (rowsOf n ws)) (sym whole)
-            (writes-rows n (rowsOf n ws) (ch .levels) (held n (ch .chips)) (asked .dclkHigh) (asked .loadHigh) (fit-rows n (rowsOf n ws) fit)
-            (subst (AllBelow 4096) same (registers-below n (ch .chips) (and-left (allValid n (ch .chips)) (leb (ch .levels) 7) (asked .valid))))
-            (ap length (sym same) ∙ registers-length n (ch .chips) (subst (λ x. n ≤ x) (sym (asked .places)) room)));
+            (writes-rows n (rowsOf n ws) (ch .levels) (held n (ch .chips)) (asked .chain .dclkHigh) (asked .chain .loadHigh) (fit-rows n (rowsOf n ws) fit)
+            (subst (AllBelow 4096) same (registers-below n (ch .chips) (and-left (allValid n (ch .chips)) (leb (ch .levels) 7) (asked .chain .valid))))
+            (ap length (sym same) ∙ registers-length n (ch .chips) (subst (λ x. n ≤ x) (sym (asked .chain .places)) room)));
       }
 
 pub demand-3 : Demand3

@@ -36,13 +36,15 @@ resets-off (suc (suc n)) (suc many) = (refl, resets-off (suc n) many)
 pub start-asked : (n : ℕ) (ws : List ℕ) → T (chipCount n) → listTest n ws ≡ done tt → Asked n startChain ws
 start-asked n ws count accepted =
     record {
-      count = count;
-      places = refl;
-      valid = start-valid n;
-      lines = any-lines (replicate most resetChip);
-      dclkHigh = refl;
-      loadHigh = refl;
-      keypad = resets-off n most;
+      chain = record {
+        count = count;
+        places = refl;
+        valid = start-valid n;
+        lines = any-lines (replicate most resetChip);
+        dclkHigh = refl;
+        loadHigh = refl;
+        keypad = resets-off n most;
+      };
       accepted = accepted;
     }
 
@@ -54,7 +56,7 @@ going-tested n ch rows ss count g = tests-pass n ch count (g .standing .valid)
 pub never-refused : (n : ℕ) (ch : Chain) (ws : List ℕ) → Asked n ch ws → (es : List Event) (rest : List ℕ) → samplesIn es ++ rest ≡ written n ws
     → testedOf n (happened n es ch) ≡ done tt
 never-refused n ch ws asked es rest whole =
-    going-tested n (happened n es ch) (rowsLeft (ch .levels) (rowsOf n ws) es) rest (asked .count) (in-between n ch ws asked es rest whole)
+    going-tested n (happened n es ch) (rowsLeft (ch .levels) (rowsOf n ws) es) rest (asked .chain .count) (in-between n ch ws asked es rest whole)
 
 -- ---- the entries
 

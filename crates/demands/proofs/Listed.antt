@@ -10,7 +10,7 @@ use Prim.Native.Nat.{ℕ, _-_, _%_, _<_}
 use lib.Dec.{T, eqb, eqb→eq}
 use Rattle.base.specs.Below.{below}
 use Rattle.base.specs.Refusals.{Told, IsDone, done, refused}
-use Rattle.base.proofs.Tests.{at-below, by-order, and-left, and-right}
+use Rattle.base.proofs.Tests.{at-below, by-order, and-left, and-right, is-true}
 use Rattle.word.specs.declared.Command.{Command}
 use Rattle.word.specs.declared.Command.the-variants.{NoOperation, BarLevel, SegmentClear, SegmentSet, Reset, Sleep, ShiftLeft, ShiftRight, RotateLeft, RotateRight, CustomCharacter, SystemParameters, DisplayParameters, BlinkByte, ReadKey, LoadDigit}
 use Rattle.word.specs.Words.{decodedOf, wordOf, plain, unlisted}
@@ -85,10 +85,6 @@ decoded-table w = go (decodedOf w) refl
         here (by-order 4096 w (λ h. inr h) (λ h. inl (not-refused w number place h e))) (all-sixes w number place e)
 
 -- ---- 7
-
-is-true : (b : Bool) → T b → b ≡ true
-is-true true t = refl
-is-true false t = absurd t
 
 -- a command that turns the keypad on has its word
 abbrev keypad-own : ℕ → Told Command → Bool

@@ -1,5 +1,6 @@
 -- What keeping to a table says of one row, and of rows for each element of a list.
 --     of-contract      a result that a contract allows keeps to the table
+--     none-first       a number that no row has is never told
 --     row-exactly      a refusal is told exactly when its row is given and no row before it is
 --     each-exactly     of rows for each element of a list: the first element with a row that is given
 --     none-exactly     and none of them
@@ -23,7 +24,7 @@ of-contract {rows = rows} e y = subst (λ x. Exactly x rows) (sym e) y
 
 -- ---- one row
 
-none-first : (rows : List Row) (m p : ℕ) → NoneOf m rows → First rows m p → ⊥
+pub none-first : (rows : List Row) (m p : ℕ) → NoneOf m rows → First rows m p → ⊥
 none-first [] m p n f = f
 none-first (r ∷ rows) m p n (inl f) = n .0 (f .1)
 none-first (r ∷ rows) m p n (inr f) = none-first rows m p (n .1) (f .1)

@@ -2,30 +2,26 @@
 -- chain's `play` block by block, with calls of `scan` between. Of the three entries nothing is used but their contracts.
 --     Call, eventsOf, blocksOf     a call of `play` or `scan`; the events of calls, and the samples of their blocks
 --     Ran, AllDone                 results of calls as the contracts allow them; no call among them was refused
---     AskedChain, AsTold           what is asked of a chain, and what calls leave
+--     AsTold                       what calls leave
 --     Demand3OfCalls               the statement
 --     CallsRun                     the calls that it speaks of have results, so it is about something
 -- Assumes nothing.
 use mathlib.Core.Path.{_≡_}
-use mathlib.Core.Bool.{true}
 use mathlib.Core.List.{List, [], _∷_, _++_, map}
 use Prim.Native.Nat.{ℕ, _<_}
-use lib.Dec.{T}
-use lib.ListN.{length, take}
+use lib.ListN.{take}
 use Rattle.base.specs.Refusals.{IsDone}
 use Rattle.chip.specs.Record.{bodyOf}
-use Rattle.chip.specs.Edges.{dclk, load}
 use Rattle.chip.specs.History.{after}
 use Rattle.chain.specs.declared.Chain.{Chain}
 use Rattle.chain.specs.declared.Handed.{Handed}
 use Rattle.chain.specs.declared.one.Scanned.{Scanned}
-use Rattle.chain.specs.Chain.{most, chipCount, validChain}
-use Rattle.chain.specs.Shift.{KeypadLast, LinesOnly}
 use Rattle.chain.specs.Entries.{chipAt, handed, playedOf, handedScan, scannedOf}
 use Rattle.writer.specs.declared.Written.{Written}
 use Rattle.writer.specs.declared.Written.the-variants.{Samples}
 use Rattle.writer.specs.Rows.{rowsOf}
 use Rattle.writer.specs.Written.{Writes}
+use Rattle.demands.specs.Demand3.{AskedChain}
 use Rattle.demands.specs.Events.{Event, sample, happened, ScansBelow, stepsFor}
 use Rattle.demands.specs.Events as Events
 
@@ -70,21 +66,6 @@ AllDone (scanned r contract next) = IsDone (handedScan r .told) × AllDone next
 
 -- ---- the statement
 
--- what is asked of a number of chips and a chain: `Asked` without the list of words
-pub record AskedChain (n : ℕ) (ch : Chain) : Type 0 where
-  -- 1 to 8 chips; the record of a chain always holds 8
-  pub count : T (chipCount n)
-  pub places : length (ch .chips) ≡ most
-  -- in any valid state
-  pub valid : T (validChain n ch)
-  -- no clock edge changes anything but line parts: true of every CH452
-  pub lines : LinesOnly (ch .chips)
-  -- DCLK and LOAD high
-  pub dclkHigh : dclk (ch .levels) ≡ true
-  pub loadHigh : load (ch .levels) ≡ true
-  -- the keypad enabled on no chip but the last
-  pub keypad : KeypadLast n (ch .chips)
-
 -- what calls leave, of a chain and a list of words: no call was refused, the last chain is what the events leave, and each
 -- chip's settings, display and key record are as if its own commands and scans had been applied directly
 pub record AsTold (n : ℕ) (ch : Chain) (ws : List ℕ) (calls : List Call) (ch′ : Chain) (ran : Ran n ch calls ch′) : Type 0 where
@@ -93,9 +74,9 @@ pub record AsTold (n : ℕ) (ch : Chain) (ws : List ℕ) (calls : List Call) (ch
   pub bodies : (k : ℕ) → k < n
       → bodyOf (chipAt k ch′) ≡ bodyOf (after (stepsFor k (ch .levels) (rowsOf n ws) (eventsOf calls)) (chipAt k ch))
 
--- `write` told a number of samples, and the blocks played are a beginning of so many bytes of the buffer that it left
-abbrev pub Demand3OfCalls : Type 0
-Demand3OfCalls =
+-- of calls: `write` told a number of samples, and the blocks played are a beginning of so many bytes of the buffer that it left
+abbrev OfCalls : ((n : ℕ) → Chain → List ℕ → List Call → Type 0) → Type 0
+OfCalls Holds =
     (n : ℕ) (ch : Chain) (ws : List ℕ)
     → AskedChain n ch
     → (out out′ : List ℕ) (r : Written) (count : ℕ)
@@ -104,18 +85,11 @@ Demand3OfCalls =
     → (calls : List Call) (rest : List ℕ)
     → ScansBelow n (eventsOf calls)
     → blocksOf calls ++ rest ≡ take count out′
-    → (ch′ : Chain) (ran : Ran n ch calls ch′)
-    → AsTold n ch ws calls ch′ ran
+    → Holds n ch ws calls
 
--- calls as Demand3OfCalls asks for them have results that the contracts allow
+abbrev pub Demand3OfCalls : Type 0
+Demand3OfCalls = OfCalls (λ n ch ws calls. (ch′ : Chain) (ran : Ran n ch calls ch′) → AsTold n ch ws calls ch′ ran)
+
+-- such calls have results that the contracts allow
 abbrev pub CallsRun : Type 0
-CallsRun =
-    (n : ℕ) (ch : Chain) (ws : List ℕ)
-    → AskedChain n ch
-    → (out out′ : List ℕ) (r : Written) (count : ℕ)
-    → Writes n ws out r out′
-    → r ≡ Samples count
-    → (calls : List Call) (rest : List ℕ)
-    → ScansBelow n (eventsOf calls)
-    → blocksOf calls ++ rest ≡ take count out′
-    → (ch′ : Chain) × Ran n ch calls ch′
+CallsRun = OfCalls (λ n ch ws calls. (ch′ : Chain) × Ran n ch calls ch′)

@@ -24,8 +24,8 @@ use Rattle.chain.specs.Entries.{chipAt}
 use Rattle.writer.specs.Rows.{rowsOf, written, listTest}
 use Rattle.demands.specs.Events.{Event, sample, happened, samplesIn, ScansBelow, wordFor, stepsFor, commandsIn}
 
--- what is asked of a number of chips, a chain and a list of words
-pub record Asked (n : ℕ) (ch : Chain) (ws : List ℕ) : Type 0 where
+-- what is asked of a number of chips and a chain
+pub record AskedChain (n : ℕ) (ch : Chain) : Type 0 where
   -- 1 to 8 chips; the record of a chain always holds 8
   pub count : T (chipCount n)
   pub places : length (ch .chips) ≡ most
@@ -38,6 +38,10 @@ pub record Asked (n : ℕ) (ch : Chain) (ws : List ℕ) : Type 0 where
   pub loadHigh : load (ch .levels) ≡ true
   -- the keypad enabled on no chip but the last
   pub keypad : KeypadLast n (ch .chips)
+
+-- and of a list of words
+pub record Asked (n : ℕ) (ch : Chain) (ws : List ℕ) : Type 0 where
+  pub chain : AskedChain n ch
   -- rows of commands that the writer accepts
   pub accepted : listTest n ws ≡ done tt
 

@@ -3,12 +3,14 @@
 --     names, row, each     how the rows of a table are written down
 --     None, Gives, First   no row is given; a row that is given; the first that is
 --     Exactly              what an entry tells is what its table says
+--     SaysExactly          an answer of the library for C says what its table says
 --     NoneOf               no row has a number
 -- Assumes nothing.
 use mathlib.Core.Path.{_≡_}
 use mathlib.Core.Logic.{_⊎_, _↔_}
 use mathlib.Core.List.{List, [], _∷_, _++_}
 use Prim.Native.Nat.{ℕ, suc}
+use lib.ListN.{getD}
 use Rattle.base.specs.Refusals.{Told, refused, IsDone}
 
 -- a row of an entry's table: a refusal's number, the place that it names, and when it is given
@@ -48,6 +50,12 @@ First (r ∷ rows) number place = Gives r number place ⊎ ((r .given → ⊥) �
 pub record Exactly {A : Type 0} (told : Told A) (rows : List Row) : Type 0 where
   pub refusal : (number place : ℕ) → (told ≡ refused number place) ↔ First rows number place
   pub answer : IsDone told ↔ None rows
+
+-- the same of an answer by numbers: its first two are a refusal's number and place exactly when that is the first row that is given,
+-- and its first is 0 exactly when none is
+pub record SaysExactly (answer : List ℕ) (rows : List Row) : Type 0 where
+  pub refusal : (number place : ℕ) → ((getD answer 0 0 ≡ suc number) × (getD answer 1 0 ≡ place)) ↔ First rows (suc number) place
+  pub answered : (getD answer 0 0 ≡ 0) ↔ None rows
 
 -- no row has this number
 abbrev pub NoneOf : ℕ → List Row → Type 0

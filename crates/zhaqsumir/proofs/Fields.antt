@@ -1,25 +1,39 @@
 -- Laws of commands given as numbers.
 --     fits-in, fits-out     a field that fits, and one that doesn't
+--     of-byte               a field that was cut to its low byte, where only a byte fits
+--     legal-word            the word of a legal command
 --     of-kind, other-kind   a kind that is the one asked for, and one that isn't
 --     no-such-kind          refusal 9 for every kind above 15, whatever the fields
 -- Assumes nothing.
 use mathlib.Core.Path.{_≡_, refl, ap, sym, _∙_}
-use Prim.Native.Nat.{ℕ, _≤_, _<_}
+use mathlib.Core.Bool.{true}
+use Prim.Native.Nat.{ℕ, _%_, _≤_, _<_}
 use lib.Dec.{eqb}
+use native.Mathlib.Nat.{mod-eq-of-lt}
 use native.Mathlib.Omega.{arith}
 use borrow.Author.Tests.{le-leb, lt-leb, ne-eqb}
 use Rattle.base.specs.Pick.{pick}
-use Rattle.base.specs.Refusals.{Told, refused}
+use Rattle.base.specs.Refusals.{Told, done, refused}
 use Rattle.base.proofs.Picks.{pick-yes, pick-no}
 use Rattle.base.proofs.Tests.{by-order}
 use Rattle.word.specs.declared.Command.{Command}
-use Rattle.zhaqsumir.specs.Commands.{fits, commandFrom}
+use Rattle.word.specs.Words.{encodedOf, wordOf, legal}
+use Rattle.zhaqsumir.specs.Commands.{fits, oneByte, commandFrom}
 
 pub fits-in : {most n : ℕ} {t made : Told Command} → n ≤ most → t ≡ made → t ≡ fits most n made
 fits-in {most} {n} h e = e ∙ sym (pick-yes _ _ (le-leb n most h))
 
 pub fits-out : {most n : ℕ} (made : Told Command) → most < n → refused 9 0 ≡ fits most n made
 fits-out {most} {n} made h = sym (pick-no _ _ (lt-leb n most h))
+
+pub of-byte : {t : Told Command} {byte : ℕ} (kind : ℕ → Command) (a : ℕ) → byte ≡ a % 256 → t ≡ fits 255 a (done (kind byte)) → t ≡ oneByte kind a
+of-byte {byte = byte} kind a low is =
+    by-order a 255 (λ h. is ∙ ap (λ (n : ℕ). fits 255 a (done (kind n))) (low ∙ mod-eq-of-lt (omega arith)))
+    (λ h. is ∙ sym (fits-out (done (kind byte)) h) ∙ fits-out (done (kind a)) h)
+
+pub legal-word : (c : Command) → legal c ≡ true → encodedOf c ≡ done (wordOf c)
+unfolding encodedOf
+legal-word c e = pick-yes _ _ e
 
 pub of-kind : {t : Told Command} (k kind a b c d e : ℕ) → kind ≡ k → t ≡ commandFrom k a b c d e → t ≡ commandFrom kind a b c d e
 of-kind k kind a b c d e q is = is ∙ ap (λ (n : ℕ). commandFrom n a b c d e) (sym q)

@@ -13,7 +13,7 @@ use borrow.Author.Tests.{le-leb, lt-leb}
 use lib.Dec.{eqb, leb}
 use lib.ListN.{getD}
 use Rattle.base.specs.Refusals.{Told, done, refused}
-use Rattle.base.proofs.Picks.{pick-yes, pick-no}
+use Rattle.base.proofs.Picks.{pick-no}
 use Rattle.base.proofs.Tests.{by-order, by-equality, past}
 use Rattle.word.specs.declared.Command.{Command}
 use Rattle.word.specs.declared.Command.the-variants.{NoOperation, BarLevel, SegmentClear, SegmentSet, Reset, Sleep, ShiftLeft, ShiftRight, RotateLeft, RotateRight, CustomCharacter, SystemParameters, DisplayParameters, BlinkByte, ReadKey, LoadDigit}
@@ -21,7 +21,7 @@ use Rattle.word.specs.Words.{encodedOf, wordOf, legal}
 use Rattle.zhaqsumir.specs.Commands.{fits, commandFrom}
 use Rattle.zhaqsumir.specs.Numbers.{encodedBy}
 use Rattle.zhaqsumir.specs.Ranges.{ranges, within, inRange}
-use Rattle.zhaqsumir.proofs.Fields.{fits-in, fits-out, no-such-kind}
+use Rattle.zhaqsumir.proofs.Fields.{fits-in, fits-out, legal-word, no-such-kind}
 
 -- an answer by one test: a word where it passes, refusal 9 where it fails
 pub data Tells : Told ℕ → Bool → Type 0 where
@@ -30,10 +30,6 @@ pub data Tells : Told ℕ → Bool → Type 0 where
 
 -- ---- one field more
 
--- a number that fits
-inside : (byte n : ℕ) (made : Told Command) → n ≤ byte → made ≡ fits byte n made
-inside byte n made h = fits-in h refl
-
 -- a field that is at most `most` is looked at by the rest; one above it is refused, by the byte that it doesn't fit or by the rest
 pub tells-field : (byte most n : ℕ) (made : Told Command) (rest : Bool) → most ≤ byte → (n ≤ most → Tells (encodedBy made) rest)
     → (most < n → n ≤ byte → encodedBy made ≡ refused 9 0)
@@ -41,16 +37,15 @@ pub tells-field : (byte most n : ℕ) (made : Told Command) (rest : Bool) → mo
 tells-field byte most n made rest h low high =
     by-order n most
     (λ l. subst (λ (b : Bool). Tells (encodedBy (fits byte n made)) (b && rest)) (sym (le-leb n most l))
-    (subst (λ (t : Told Command). Tells (encodedBy t) rest) (inside byte n made (omega arith)) (low l)))
+    (subst (λ (t : Told Command). Tells (encodedBy t) rest) (fits-in {most = byte} {n = n} (omega arith) refl) (low l)))
     (λ g. subst (λ (b : Bool). Tells (encodedBy (fits byte n made)) (b && rest)) (sym (lt-leb n most g))
     (subst (λ (t : Told ℕ). Tells t false)
-    (sym (by-order n byte (λ l. ap encodedBy (sym (inside byte n made l)) ∙ high g l) (λ o. ap encodedBy (sym (fits-out made o))))) nine))
+    (sym (by-order n byte (λ l. ap encodedBy (sym (fits-in {most = byte} {n = n} l refl)) ∙ high g l) (λ o. ap encodedBy (sym (fits-out made o))))) nine))
 
 -- ---- the kinds
 
-legal-word : (c : Command) → legal c ≡ true → Tells (encodedOf c) true
-unfolding encodedOf
-legal-word c e = subst (λ (t : Told ℕ). Tells t true) (sym (pick-yes _ _ e)) (a-word (wordOf c))
+tells-word : (c : Command) → legal c ≡ true → Tells (encodedOf c) true
+tells-word c e = subst (λ (t : Told ℕ). Tells t true) (sym (legal-word c e)) (a-word (wordOf c))
 
 illegal-word : (c : Command) → legal c ≡ false → encodedOf c ≡ refused 9 0
 unfolding encodedOf
@@ -59,7 +54,7 @@ illegal-word c e = pick-no _ _ e
 -- one field, a byte
 one-byte : (most n : ℕ) (c : Command) → legal c ≡ leb n most → most ≤ 255 → Tells (encodedBy (fits 255 n (done c))) (leb n most && true)
 one-byte most n c e h =
-    tells-field 255 most n (done c) true h (λ l. legal-word c (e ∙ le-leb n most l)) (λ g l. illegal-word c (e ∙ lt-leb n most g))
+    tells-field 255 most n (done c) true h (λ l. tells-word c (e ∙ le-leb n most l)) (λ g l. illegal-word c (e ∙ lt-leb n most g))
 
 -- a bit, and the rest
 one-bit : (n : ℕ) (made : Told Command) (rest : Bool) → Tells (encodedBy made) rest → Tells (encodedBy (fits 1 n made)) (leb n 1 && rest)
@@ -69,8 +64,8 @@ one-bit n made rest low = tells-field 1 1 n made rest (omega arith) (λ l. low) 
 digit-byte : (a b : ℕ) → Tells (encodedBy (fits 255 a (fits 255 b (done (LoadDigit a b))))) (leb a 7 && (leb b 255 && true))
 digit-byte a b =
     tells-field 255 7 a (fits 255 b (done (LoadDigit a b))) (leb b 255 && true) (omega arith)
-    (λ l. tells-field 255 255 b (done (LoadDigit a b)) true (omega arith) (λ m. legal-word (LoadDigit a b) (λ i. le-leb a 7 l i && le-leb b 255 m i)) (λ g m. absurd (omega arith)))
-    (λ g l. by-order b 255 (λ m. ap encodedBy (sym (inside 255 b (done (LoadDigit a b)) m)) ∙ illegal-word (LoadDigit a b) (λ i. lt-leb a 7 g i && leb b 255)) (λ o. ap encodedBy (sym (fits-out (done (LoadDigit a b)) o))))
+    (λ l. tells-field 255 255 b (done (LoadDigit a b)) true (omega arith) (λ m. tells-word (LoadDigit a b) (λ i. le-leb a 7 l i && le-leb b 255 m i)) (λ g m. absurd (omega arith)))
+    (λ g l. by-order b 255 (λ m. ap encodedBy (sym (fits-in {most = 255} {n = b} m refl)) ∙ illegal-word (LoadDigit a b) (λ i. lt-leb a 7 g i && leb b 255)) (λ o. ap encodedBy (sym (fits-out (done (LoadDigit a b)) o))))
 
 module _ (a b c d e : ℕ) where
   abbrev fields : List ℕ
@@ -81,7 +76,7 @@ module _ (a b c d e : ℕ) where
 
   kind-0 : Kind 0
   unfolding commandFrom
-  kind-0 = legal-word NoOperation refl
+  kind-0 = tells-word NoOperation refl
 
   kind-1 : Kind 1
   unfolding commandFrom
@@ -97,27 +92,27 @@ module _ (a b c d e : ℕ) where
 
   kind-4 : Kind 4
   unfolding commandFrom
-  kind-4 = legal-word Reset refl
+  kind-4 = tells-word Reset refl
 
   kind-5 : Kind 5
   unfolding commandFrom
-  kind-5 = legal-word Sleep refl
+  kind-5 = tells-word Sleep refl
 
   kind-6 : Kind 6
   unfolding commandFrom
-  kind-6 = legal-word ShiftLeft refl
+  kind-6 = tells-word ShiftLeft refl
 
   kind-7 : Kind 7
   unfolding commandFrom
-  kind-7 = legal-word ShiftRight refl
+  kind-7 = tells-word ShiftRight refl
 
   kind-8 : Kind 8
   unfolding commandFrom
-  kind-8 = legal-word RotateLeft refl
+  kind-8 = tells-word RotateLeft refl
 
   kind-9 : Kind 9
   unfolding commandFrom
-  kind-9 = legal-word RotateRight refl
+  kind-9 = tells-word RotateRight refl
 
   kind-10 : Kind 10
   unfolding commandFrom
@@ -126,7 +121,7 @@ module _ (a b c d e : ℕ) where
   kind-11 : Kind 11
   unfolding commandFrom
   kind-11 =
-      one-bit a _ _ (one-bit b _ _ (one-bit c _ _ (one-bit d _ _ (one-bit e _ _ (legal-word (SystemParameters (record { intm = eqb a 1; sspd = eqb b 1; dplr = eqb c 1; keyb = eqb d 1; disp = eqb e 1 })) refl)))))
+      one-bit a _ _ (one-bit b _ _ (one-bit c _ _ (one-bit d _ _ (one-bit e _ _ (tells-word (SystemParameters (record { intm = eqb a 1; sspd = eqb b 1; dplr = eqb c 1; keyb = eqb d 1; disp = eqb e 1 })) refl)))))
 
   kind-12 : Kind 12
   unfolding commandFrom
@@ -138,7 +133,7 @@ module _ (a b c d e : ℕ) where
 
   kind-14 : Kind 14
   unfolding commandFrom
-  kind-14 = legal-word ReadKey refl
+  kind-14 = tells-word ReadKey refl
 
   kind-15 : Kind 15
   unfolding commandFrom

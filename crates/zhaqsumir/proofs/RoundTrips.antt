@@ -11,15 +11,14 @@ use lib.Dec.{T, eqb, leb, leb→le}
 use Rattle.base.specs.Bits.{digit}
 use Rattle.base.specs.Refusals.{Told, done}
 use Rattle.base.proofs.Cuts.{digit-lt}
-use Rattle.base.proofs.Picks.{pick-yes}
-use Rattle.base.proofs.Tests.{and-left, and-right}
+use Rattle.base.proofs.Tests.{and-left, and-right, is-true}
 use Rattle.word.specs.declared.Command.{Command}
 use Rattle.word.specs.declared.Command.the-variants.{NoOperation, BarLevel, SegmentClear, SegmentSet, Reset, Sleep, ShiftLeft, ShiftRight, RotateLeft, RotateRight, CustomCharacter, SystemParameters, DisplayParameters, BlinkByte, ReadKey, LoadDigit}
-use Rattle.word.specs.Words.{decodedOf, encodedOf, wordOf, legal, plain}
+use Rattle.word.specs.Words.{decodedOf, legal, plain}
 use Rattle.word.proofs.RoundTrips.{word-back, meaning-legal}
 use Rattle.zhaqsumir.specs.Commands.{numbersOf, commandFrom, commandIn}
 use Rattle.zhaqsumir.specs.Numbers.{alone, encodedBy, encodeNumbers}
-use Rattle.zhaqsumir.proofs.Fields.{fits-in}
+use Rattle.zhaqsumir.proofs.Fields.{fits-in, legal-word}
 
 digit-bit : (b : Bool) → eqb (digit b) 1 ≡ b
 digit-bit true = refl
@@ -55,14 +54,9 @@ numbers-back ReadKey t = refl
 numbers-back (LoadDigit dig byte) t =
     sym (fits-in (small dig (omega arith) (and-left (leb dig 7) (leb byte 255) t)) (fits-in (small byte (omega arith) (and-right (leb dig 7) (leb byte 255) t)) refl))
 
-legal-word : (c : Command) (b : Bool) → legal c ≡ b → T b → encodedOf c ≡ done (wordOf c)
-unfolding encodedOf
-legal-word c true e t = pick-yes _ _ e
-legal-word c false e t = absurd t
-
 pub encode-decoded : (w : ℕ) (c : Command) → decodedOf w ≡ done c → encodeNumbers (numbersOf c) ≡ 0 ∷ 0 ∷ plain w ∷ []
 encode-decoded w c e =
     let t = meaning-legal w c e in
     ap (λ (told : Told Command). alone (encodedBy told)) (numbers-back c t)
-    ∙ ap alone (legal-word c (legal c) refl t)
+    ∙ ap alone (legal-word c (is-true (legal c) t))
     ∙ ap (λ (n : ℕ). 0 ∷ 0 ∷ n ∷ []) (word-back w c e)

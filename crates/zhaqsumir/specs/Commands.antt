@@ -83,22 +83,9 @@ commandFrom kind a b c d e =
 
 -- the command of six numbers
 abbrev pub commandIn : List ℕ → Told Command
-commandIn six = commandFrom (getD six 0 0) (getD six 1 0) (getD six 2 0) (getD six 3 0) (getD six 4 0) (getD six 5 0)
+commandIn ns = commandFrom (getD ns 0 0) (getD ns 1 0) (getD ns 2 0) (getD ns 3 0) (getD ns 4 0) (getD ns 5 0)
 
--- ---- what the code's own functions promise to one another
-
--- the kinds with one field, a byte, by themselves
-unfoldable pub withByte : ℕ → ℕ → Told Command
-withByte kind a =
-    pick (eqb kind 1) (done (BarLevel a))
-    (pick (eqb kind 2) (done (SegmentClear a))
-    (pick (eqb kind 3) (done (SegmentSet a))
-    (pick (eqb kind 10) (done (CustomCharacter a)) (pick (eqb kind 13) (done (BlinkByte a)) (refused 9 0)))))
-
-abbrev pub byteFrom : ℕ → ℕ → Told Command
-byteFrom kind a = fits 255 a (withByte kind a)
-
--- what the code has of a command
+-- what the code has of a command that is given
 abbrev pub givenTells : Given → Told Command
 givenTells (G.Is c) = done c
 givenTells G.Refused = refused 9 0

@@ -59,7 +59,7 @@ encodedBy (refused number place) = refused number place
 
 -- what `zhaqsumir_encode` answers to a kind and five fields
 abbrev pub encodeNumbers : List ℕ → List ℕ
-encodeNumbers six = alone (encodedBy (commandIn six))
+encodeNumbers command = alone (encodedBy (commandIn command))
 
 -- what `zhaqsumir_write` does: its answer, and the buffer as the writer leaves it
 pub record WritesNumbers (n : ℕ) (words out : List ℕ) (answer out′ : List ℕ) : Type 0 where

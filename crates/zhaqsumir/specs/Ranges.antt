@@ -7,7 +7,9 @@ use mathlib.Core.List.{List, [], _∷_}
 use lib.Dec.{leb}
 use lib.ListN.{getD}
 
--- for each kind, in the order of document 01's table, the most of each field that it has
+-- for each kind, in the order of document 01's table, the most of each field that it has: no operation; bar level; segment clear,
+-- segment set; reset, sleep; the four shifts and rotates; custom character; system parameters; display parameters; blink byte; read
+-- key; load digit
 abbrev pub ranges : List (List ℕ)
 ranges =
     []

@@ -3,8 +3,10 @@ use word::Command;
 use word::Display;
 use word::System;
 ghost use mathlib.Core.Path.{_≡_};
+ghost use Prim.Native.Nat.{_%_};
 ghost use mathlib.Core.List.{_∷_};
 ghost use Rattle.base.specs.Bits.{digit};
+ghost use Rattle.base.specs.Refusals.{done};
 ghost use Rattle.zhaqsumir.specs.Commands as C;
 
 // A command of six numbers; refused where there is no such kind, or a field doesn't fit.
@@ -113,22 +115,21 @@ fn digit_from(a: u64, b: u64) -> Given
     })
 }
 
-// The kinds with one field, a byte.
-fn byte_from(kind: u64, a: u64) -> Given
-    ensures { λ r. ⌜ C.givenTells r ≡ C.byteFrom kind a ⌝ }
+// The low byte of a number.
+fn low(a: u64) -> u8
+    ensures { λ r. ⌜ r ≡ a % 256 ⌝ }
+{
+    (a % 256) as u8
+}
+
+// A command whose one field is a byte, and the number given for it.
+fn one_byte(a: u64, command: Command) -> Given
+    ensures { λ r. ⌜ C.givenTells r ≡ C.fits 255 a (done command) ⌝ }
 {
     if a > 255 {
         return Given::Refused;
     }
-    let byte = a as u8;
-    match kind {
-        1 => Given::Is(Command::BarLevel(byte)),
-        2 => Given::Is(Command::SegmentClear(byte)),
-        3 => Given::Is(Command::SegmentSet(byte)),
-        10 => Given::Is(Command::CustomCharacter(byte)),
-        13 => Given::Is(Command::BlinkByte(byte)),
-        _ => Given::Refused,
-    }
+    Given::Is(command)
 }
 
 // The command of a kind and five fields.
@@ -137,19 +138,19 @@ pub(crate) fn command_from(kind: u64, a: u64, b: u64, c: u64, d: u64, e: u64) ->
 {
     match kind {
         0 => Given::Is(Command::NoOperation),
-        1 => byte_from(1, a),
-        2 => byte_from(2, a),
-        3 => byte_from(3, a),
+        1 => one_byte(a, Command::BarLevel(low(a))),
+        2 => one_byte(a, Command::SegmentClear(low(a))),
+        3 => one_byte(a, Command::SegmentSet(low(a))),
         4 => Given::Is(Command::Reset),
         5 => Given::Is(Command::Sleep),
         6 => Given::Is(Command::ShiftLeft),
         7 => Given::Is(Command::ShiftRight),
         8 => Given::Is(Command::RotateLeft),
         9 => Given::Is(Command::RotateRight),
-        10 => byte_from(10, a),
+        10 => one_byte(a, Command::CustomCharacter(low(a))),
         11 => system_from(a, b, c, d, e),
         12 => display_from(a, b),
-        13 => byte_from(13, a),
+        13 => one_byte(a, Command::BlinkByte(low(a))),
         14 => Given::Is(Command::ReadKey),
         15 => digit_from(a, b),
         _ => Given::Refused,

@@ -1,9 +1,12 @@
 -- `zhaqsumir::commands::command_from` meets its contract: the number matched is the kind.
 -- Assumes nothing.
 use mathlib.Core.Path.{refl}
+use Prim.Native.Nat.{zero-le}
 use native.Mathlib.Omega.{arith}
-use Rattle.zhaqsumir.specs.Commands.{commandFrom, withByte}
-use Rattle.zhaqsumir.proofs.Fields.{of-kind, other-kind}
+use Rattle.base.proofs.Tests.{past}
+use Rattle.word.specs.declared.Command.the-variants.{BarLevel, SegmentClear, SegmentSet, CustomCharacter, BlinkByte}
+use Rattle.zhaqsumir.specs.Commands.{commandFrom}
+use Rattle.zhaqsumir.proofs.Fields.{of-kind, of-byte, no-such-kind}
 use borrow.Author.Needs.{needs}
 use Rattle.zhaqsumir.proofs.commands.command_from.Statement.{statement}
 use Rattle.zhaqsumir.proofs.commands.command_from.Tie as tie
@@ -15,22 +18,22 @@ returns c =
     of-kind 0 (a .kind) (a .a) (a .b) (a .c) (a .d) (a .e) (omega arith) refl
 
 returns-2 : tie.Need-returns-2
-unfolding commandFrom withByte
+unfolding commandFrom
 returns-2 c =
-    let a = c .before .before .args in
-    of-kind 1 (a .kind) (a .a) (a .b) (a .c) (a .d) (a .e) (omega arith) (c .byte-from .ensures)
+    let a = c .before .before .before .args in
+    of-kind 1 (a .kind) (a .a) (a .b) (a .c) (a .d) (a .e) (omega arith) (of-byte BarLevel (a .a) (c .before .low .ensures) (c .one-byte .ensures))
 
 returns-3 : tie.Need-returns-3
-unfolding commandFrom withByte
+unfolding commandFrom
 returns-3 c =
-    let a = c .before .before .args in
-    of-kind 2 (a .kind) (a .a) (a .b) (a .c) (a .d) (a .e) (omega arith) (c .byte-from2 .ensures)
+    let a = c .before .before .before .args in
+    of-kind 2 (a .kind) (a .a) (a .b) (a .c) (a .d) (a .e) (omega arith) (of-byte SegmentClear (a .a) (c .before .low2 .ensures) (c .one-byte2 .ensures))
 
 returns-4 : tie.Need-returns-4
-unfolding commandFrom withByte
+unfolding commandFrom
 returns-4 c =
-    let a = c .before .before .args in
-    of-kind 3 (a .kind) (a .a) (a .b) (a .c) (a .d) (a .e) (omega arith) (c .byte-from3 .ensures)
+    let a = c .before .before .before .args in
+    of-kind 3 (a .kind) (a .a) (a .b) (a .c) (a .d) (a .e) (omega arith) (of-byte SegmentSet (a .a) (c .before .low3 .ensures) (c .one-byte3 .ensures))
 
 returns-5 : tie.Need-returns-5
 unfolding commandFrom
@@ -69,10 +72,10 @@ returns-10 c =
     of-kind 9 (a .kind) (a .a) (a .b) (a .c) (a .d) (a .e) (omega arith) refl
 
 returns-11 : tie.Need-returns-11
-unfolding commandFrom withByte
+unfolding commandFrom
 returns-11 c =
-    let a = c .before .before .args in
-    of-kind 10 (a .kind) (a .a) (a .b) (a .c) (a .d) (a .e) (omega arith) (c .byte-from4 .ensures)
+    let a = c .before .before .before .args in
+    of-kind 10 (a .kind) (a .a) (a .b) (a .c) (a .d) (a .e) (omega arith) (of-byte CustomCharacter (a .a) (c .before .low4 .ensures) (c .one-byte4 .ensures))
 
 returns-12 : tie.Need-returns-12
 unfolding commandFrom
@@ -87,10 +90,10 @@ returns-13 c =
     of-kind 12 (a .kind) (a .a) (a .b) (a .c) (a .d) (a .e) (omega arith) (c .display-from .ensures)
 
 returns-14 : tie.Need-returns-14
-unfolding commandFrom withByte
+unfolding commandFrom
 returns-14 c =
-    let a = c .before .before .args in
-    of-kind 13 (a .kind) (a .a) (a .b) (a .c) (a .d) (a .e) (omega arith) (c .byte-from5 .ensures)
+    let a = c .before .before .before .args in
+    of-kind 13 (a .kind) (a .a) (a .b) (a .c) (a .d) (a .e) (omega arith) (of-byte BlinkByte (a .a) (c .before .low5 .ensures) (c .one-byte5 .ensures))
 
 returns-15 : tie.Need-returns-15
 unfolding commandFrom
@@ -105,15 +108,21 @@ returns-16 c =
     of-kind 15 (a .kind) (a .a) (a .b) (a .c) (a .d) (a .e) (omega arith) (c .digit-from .ensures)
 
 returns-17 : tie.Need-returns-17
-unfolding commandFrom
 returns-17 c =
+    let a = c .before .args in
     let m = c .match .rest in
-    other-kind _ (m .0 .0 .0 .0 .0 .0 .0 .0 .0 .0 .0 .0 .0 .0 .0 .1) (other-kind _ (m .0 .0 .0 .0 .0 .0 .0 .0 .0 .0 .0 .0 .0 .0 .1) (other-kind _ (m .0 .0 .0 .0 .0 .0 .0 .0 .0 .0 .0 .0 .0 .1) (other-kind _ (m .0 .0 .0 .0 .0 .0 .0 .0 .0 .0 .0 .0 .1) (other-kind _ (m .0 .0 .0 .0 .0 .0 .0 .0 .0 .0 .0 .1) (other-kind _ (m .0 .0 .0 .0 .0 .0 .0 .0 .0 .0 .1) (other-kind _ (m .0 .0 .0 .0 .0 .0 .0 .0 .0 .1) (other-kind _ (m .0 .0 .0 .0 .0 .0 .0 .0 .1) (other-kind _ (m .0 .0 .0 .0 .0 .0 .0 .1) (other-kind _ (m .0 .0 .0 .0 .0 .0 .1) (other-kind _ (m .0 .0 .0 .0 .0 .1) (other-kind _ (m .0 .0 .0 .0 .1) (other-kind _ (m .0 .0 .0 .1) (other-kind _ (m .0 .0 .1) (other-kind _ (m .0 .1) (other-kind _ (m .1) refl)))))))))))))))
+    no-such-kind (a .kind) (a .a) (a .b) (a .c) (a .d) (a .e)
+    (past 15 (past 14 (past 13 (past 12 (past 11 (past 10 (past 9 (past 8 (past 7 (past 6 (past 5 (past 4 (past 3 (past 2 (past 1 (past 0 zero-le (m .0 .0 .0 .0 .0 .0 .0 .0 .0 .0 .0 .0 .0 .0 .0 .1)) (m .0 .0 .0 .0 .0 .0 .0 .0 .0 .0 .0 .0 .0 .0 .1)) (m .0 .0 .0 .0 .0 .0 .0 .0 .0 .0 .0 .0 .0 .1)) (m .0 .0 .0 .0 .0 .0 .0 .0 .0 .0 .0 .0 .1)) (m .0 .0 .0 .0 .0 .0 .0 .0 .0 .0 .0 .1)) (m .0 .0 .0 .0 .0 .0 .0 .0 .0 .0 .1)) (m .0 .0 .0 .0 .0 .0 .0 .0 .0 .1)) (m .0 .0 .0 .0 .0 .0 .0 .0 .1)) (m .0 .0 .0 .0 .0 .0 .0 .1)) (m .0 .0 .0 .0 .0 .0 .1)) (m .0 .0 .0 .0 .0 .1)) (m .0 .0 .0 .0 .1)) (m .0 .0 .0 .1)) (m .0 .0 .1)) (m .0 .1)) (m .1))
 
 pub command-from-spec : {M : Type 1} → statement M
 command-from-spec =
     tie.close
     (tie.spec
+    (λ c κs. search needs)
+    (λ c κs. search needs)
+    (λ c κs. search needs)
+    (λ c κs. search needs)
+    (λ c κs. search needs)
     (λ c κs. search needs)
     (λ c κs. search needs)
     (λ c κs. search needs)
