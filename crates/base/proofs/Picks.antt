@@ -10,10 +10,6 @@ pick-yes x y e = ap (λ t. pick t x y) e
 pub pick-no {ℓ} : {A : Type ℓ} (x y : A) {b : Bool} → b ≡ false → pick b x y ≡ y
 pick-no x y e = ap (λ t. pick t x y) e
 
-pub pick-same {ℓ} : {A : Type ℓ} (x : A) (b : Bool) → pick b x x ≡ x
-pick-same x true = refl
-pick-same x false = refl
-
 -- a function of a choice is the choice of its values
 pub pick-ap {ℓ κ} : {A : Type ℓ} {B : Type κ} (f : A → B) (b : Bool) (x y : A) → f (pick b x y) ≡ pick b (f x) (f y)
 pick-ap f true x y = refl

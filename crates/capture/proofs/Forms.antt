@@ -12,20 +12,20 @@
 -- Assumes nothing.
 use mathlib.Core.Path.{_≡_, refl, ap, ap₂, sym, subst, _∙_}
 use mathlib.Core.Bool.{Bool, true, false, _&&_}
-use mathlib.Core.List.{List, [], _∷_, _++_}
+use mathlib.Core.List.{List, [], _∷_}
 use Prim.Native.Nat.{ℕ, zero, suc, _+_, _-_, _≤_, _<_}
 use native.Mathlib.Omega.{arith}
 use borrow.Author.Tests.{le-leb, lt-leb, lt-ltb, le-ltb, eq-eqb, ne-eqb}
-use lib.Dec.{eqb, leb, ltb}
+use lib.Dec.{eqb, ltb}
 use lib.ListN.{length, getD, take, drop, length-drop}
 use lib.Seq.{length-take-le}
 use Rattle.base.specs.Pick.{pick}
-use Rattle.base.specs.Refusals.{Told, done, refused, handsBack}
+use Rattle.base.specs.Refusals.{done, refused}
 use Rattle.base.proofs.Lent.{placed-none}
 use Rattle.base.proofs.Picks.{pick-yes, pick-no}
 use Rattle.base.proofs.Tests.{by-order}
 use Rattle.chip.specs.declared.Chip.{Chip}
-use Rattle.chip.specs.declared.Recorded.{Recorded}
+use Rattle.chip.specs.Scans.{Recording}
 use Rattle.chip.specs.Entries.{scanTells}
 use Rattle.chain.specs.declared.Chain.{Chain}
 use Rattle.chain.specs.declared.one.Scanned.{Scanned}
@@ -85,7 +85,7 @@ scan-far n k bytes h = pick-no _ _ (ap (λ b. b && eqb (length bytes) 8) (le-ltb
 
 module _ (n : ℕ) (ch : Chain) (k : ℕ) (bytes : List ℕ) (passed : testedOf n ch ≡ done tt) (s : Scanned)
     (told : handedScan s ≡ scannedOf n ch k bytes) where
-  pub scan-below : {what : Recorded} → scanTells (s .answer) ≡ done what → k < n
+  pub scan-below : {what : Recording} → scanTells (s .answer) ≡ done what → k < n
   scan-below e =
       by-order n k
       (λ h.

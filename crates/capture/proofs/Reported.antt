@@ -104,15 +104,15 @@ same-over a b i h l = ap₂ sameBytes (drop-of-length-le a h) (drop-of-length-le
 
 -- ---- a scan
 
-module _ (k : ℕ) (bytes : List ℕ) (c : Chip) {t : Taken} (e : t ≡ S.taken bytes c) where
-  pub scan-words : {what : Report} → what ≡ Words → atScan what k bytes c ≡ keyLine k (t .recorded)
-  scan-words w = ap (λ x. atScan x k bytes c) w ∙ ap (λ x. keyLine k (x .recorded)) (sym e)
+module _ (k : ℕ) (bytes : List ℕ) (c : Chip) (t : Taken) (e : S.tookOf t ≡ S.taken bytes c) where
+  pub scan-words : {what : Report} → what ≡ Words → atScan what k bytes c ≡ keyLine k (S.recordingOf (t .recorded))
+  scan-words w = ap (λ x. atScan x k bytes c) w ∙ ap (λ (x : S.Took). keyLine k (x .recorded)) (sym e)
 
   -- the segments lit, as the code compares them
   module _ {what : Report} {before after : List ℕ} {same : Bool} (w : what ≡ Screen) (p : before ≡ litOf c) (q : after ≡ litOf (t .chip))
       (s : same ≡ sameBytes before after) where
     lit-same : sameBytes (litOf c) (litOf (S.scanned bytes c)) ≡ same
-    lit-same = sym (s ∙ ap₂ sameBytes p (q ∙ ap (λ x. litOf (x .chip)) e))
+    lit-same = sym (s ∙ ap₂ sameBytes p (q ∙ ap (λ (x : S.Took). litOf (x .chip)) e))
 
     pub scan-same : same ≡ true → atScan what k bytes c ≡ []
     scan-same y = ap (λ x. atScan x k bytes c) w ∙ pick-yes [] (screenLine k (S.scanned bytes c)) (lit-same ∙ y)
@@ -121,4 +121,4 @@ module _ (k : ℕ) (bytes : List ℕ) (c : Chip) {t : Taken} (e : t ≡ S.taken 
     scan-other y =
         ap (λ x. atScan x k bytes c) w
         ∙ pick-no [] (screenLine k (S.scanned bytes c)) (lit-same ∙ y)
-        ∙ ap (λ x. screenLine k (x .chip)) (sym e)
+        ∙ ap (λ (x : S.Took). screenLine k (x .chip)) (sym e)

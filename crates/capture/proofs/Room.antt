@@ -19,10 +19,8 @@ use Rattle.base.specs.Refusals.{Told, done, refused}
 use Rattle.base.proofs.Picks.{pick-cases}
 use Rattle.base.proofs.Tests.{and-right}
 use Rattle.chip.specs.declared.Chip.{Chip}
-use Rattle.chip.specs.declared.Recorded.{Recorded}
-use Rattle.chip.specs.declared.Recorded.the-variants.{Nothing, Key}
 use Rattle.chip.specs.Edges.{load, loadRises}
-use Rattle.chip.specs.Scans.{scanned, recorded}
+use Rattle.chip.specs.Scans.{Recording, nothing, keyCode, scanned, recorded}
 use Rattle.chip.specs.Segments.{litOf}
 use Rattle.chain.specs.declared.Chain.{Chain}
 use Rattle.chain.specs.Chain.{chipCount, checkedFrom, steppedChain}
@@ -61,9 +59,9 @@ at-rise-room what n ch h =
     let few : length (take n (ch .chips)) ≤ 8 = omega (arith, length-take n (ch .chips), min-le-left n (length (ch .chips))) in
     omega (arith, rise-lines-length what 0 (take n (ch .chips)), mul-le-mul-left (lineWidth what) few)
 
-key-room : (k : ℕ) (r : Recorded) → length (keyLine k r) ≤ 9
-key-room k Nothing = omega arith
-key-room k (Key code) = omega (arith, line-for-length (0x11 ∷ k ∷ code ∷ []))
+key-room : (k : ℕ) (r : Recording) → length (keyLine k r) ≤ 9
+key-room k nothing = omega arith
+key-room k (keyCode code) = omega (arith, line-for-length (0x11 ∷ k ∷ code ∷ []))
 
 pub at-scan-room : (what : Report) (k : ℕ) (bytes : List ℕ) (c : Chip) → length (atScan what k bytes c) ≤ lineWidth what
 at-scan-room Words k bytes c = key-room k (recorded bytes c)

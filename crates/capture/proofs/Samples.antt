@@ -5,28 +5,26 @@
 --     turn-room, turn-less, turn-again      a turn with a rise: it has room, it passes samples, and the invariant holds again
 --     turn-none, going-over                 no rise is left, and no sample
 -- Assumes nothing.
-use mathlib.Core.Path.{_≡_, refl, ap, ap₂, sym, subst, _∙_}
+use mathlib.Core.Path.{_≡_, refl, ap, sym, subst, _∙_}
 use mathlib.Core.Bool.{true}
-use mathlib.Core.List.{List, [], _∷_, _++_}
-use Prim.Native.Nat.{ℕ, zero, suc, _+_, _-_, _≤_, _<_}
+use mathlib.Core.List.{List, [], _++_}
+use Prim.Native.Nat.{ℕ, _+_, _-_, _≤_, _<_}
 use native.Mathlib.Numerals.{add-one}
 use native.Mathlib.Omega.{arith}
 use lib.ListN.{length, take, drop, length-append, length-drop, take-append-drop, drop-of-length-le}
 use lib.Seq.{take-all, drop-drop}
-use Rattle.base.specs.Refusals.{Told, done, refused}
+use Rattle.base.specs.Refusals.{done}
 use Rattle.base.proofs.Lent.{Fills, fills-start, fills-more, fills-over}
 use Rattle.chain.specs.declared.Chain.{Chain}
 use Rattle.chain.specs.declared.Handed.{Handed}
 use Rattle.chain.specs.declared.finder.Found.{Found}
-use Rattle.chain.specs.declared.finder.Rise.{Rise}
 use Rattle.chain.specs.declared.finder.Rise.the-variants.{At, Nothing}
 use Rattle.chain.specs.Chain.{testedOf, checkedFrom, played}
 use Rattle.chain.specs.Entries.{handed, playedOf}
-use Rattle.chain.specs.Finder.{riseFrom, passedBy, lookedOf, handedFound, foundOf}
+use Rattle.chain.specs.Finder.{NextRise, riseAt, noRise, nextRiseOf, riseFrom, passedBy, lookedOf, handedFound, foundOf}
 use Rattle.chain.proofs.Laws.{played-append, checked-below}
 use Rattle.chain.proofs.Passed.{played-tested, play-done, found-done}
 use Rattle.capture.specs.declared.Report.{Report}
-use Rattle.capture.specs.declared.walk.Took.{Took}
 use Rattle.capture.specs.Frames.{samples}
 use Rattle.capture.specs.Parts.{Puts, Takes}
 use Rattle.capture.specs.Reports.{atRise}
@@ -72,7 +70,7 @@ module _ {what : Report} {n : ℕ} {ss : List ℕ} {at₀ : ℕ} {out₀ : List 
         ∙ ap (foundOf (next .levels)) (take-all (length ss - i) left (omega (arith, length-drop i ss)))
         ∙ found-done n next (g .tested) left left-checked
 
-    going-found : f .rise ≡ riseFrom 0 (next .levels) left
+    going-found : nextRiseOf (f .rise) ≡ riseFrom 0 (next .levels) left
     going-found = ap (λ o. o .state .rise) looked
 
     going-count : f .passed ≡ passedBy (riseFrom 0 (next .levels) left) (length left)
@@ -81,11 +79,11 @@ module _ {what : Report} {n : ℕ} {ss : List ℕ} {at₀ : ℕ} {out₀ : List 
     pub going-passed : i + f .passed ≤ length ss
     going-passed = go (riseFrom 0 (next .levels) left) refl
       where
-        go : (r : Rise) → riseFrom 0 (next .levels) left ≡ r → i + f .passed ≤ length ss
-        go (At p) e =
+        go : (r : NextRise) → riseFrom 0 (next .levels) left ≡ r → i + f .passed ≤ length ss
+        go (riseAt p) e =
             let c = going-count ∙ ap (λ r. passedBy r (length left)) e in
             omega (arith, rise-within 0 (next .levels) left p e, length-drop i ss, g .within)
-        go Nothing e =
+        go noRise e =
             let c = going-count ∙ ap (λ r. passedBy r (length left)) e in
             omega (arith, length-drop i ss, g .within)
 
@@ -94,11 +92,11 @@ module _ {what : Report} {n : ℕ} {ss : List ℕ} {at₀ : ℕ} {out₀ : List 
 
   -- ---- a rise
 
-  module _ (p : ℕ) (e : riseFrom 0 (next .levels) left ≡ At p) where
+  module _ (p : ℕ) (e : riseFrom 0 (next .levels) left ≡ riseAt p) where
     split : Splits what n left next p
     split =
         let same : p ≡ 0 + p = omega arith in
-        rise-splits what n 0 p left next (e ∙ ap At same)
+        rise-splits what n 0 p left next (e ∙ ap riseAt same)
 
     abbrev after-rise : Chain
     after-rise = played n (take (p + 1) left) next
@@ -138,7 +136,7 @@ module _ {what : Report} {n : ℕ} {ss : List ℕ} {at₀ : ℕ} {out₀ : List 
       let f = fills-over (subst (λ w. Fills at₀ (risesIn what n ss ch₀) out₀ end w out) none (g .fills)) in
       record { chain = same; taken = refl; puts = record { answer = f .0; bytes = f .1 } }
 
-  going-none : (m : ℕ) → riseFrom 0 (next .levels) left ≡ Nothing → m ≡ length left
+  going-none : (m : ℕ) → riseFrom 0 (next .levels) left ≡ noRise → m ≡ length left
       → Takes (taken what n ch₀ (samples ss)) at₀ out₀ (record { chain = played n (take m left) next; taken = true; at = end }) out
   going-none m e whole =
       over (no-rise-none what n 0 left next e)
@@ -165,13 +163,13 @@ module _ {what : Report} {n : ℕ} {ss : List ℕ} {at₀ : ℕ} {out₀ : List 
 
       pub turn-none : f .rise ≡ Nothing → Takes (taken what n ch₀ (samples ss)) at₀ out₀ (record { chain = h .chain; taken = true; at = end }) out
       turn-none q =
-          let none = sym (going-found f told) ∙ q in
+          let none = sym (going-found f told) ∙ ap nextRiseOf q in
           subst (λ c. Takes (taken what n ch₀ (samples ss)) at₀ out₀ (record { chain = c; taken = true; at = end }) out) (sym chain-so)
           (going-none (f .passed) none (going-count f told ∙ ap (λ r. passedBy r (length left)) none))
 
       module _ (p : ℕ) (q : f .rise ≡ At p) where
-        found-at : riseFrom 0 (next .levels) left ≡ At p
-        found-at = sym (going-found f told) ∙ q
+        found-at : riseFrom 0 (next .levels) left ≡ riseAt p
+        found-at = sym (going-found f told) ∙ ap nextRiseOf q
 
         count-at : f .passed ≡ p + 1
         count-at = going-count f told ∙ ap (λ r. passedBy r (length left)) found-at

@@ -1,16 +1,15 @@
 -- Document 01, "Capture text": what is written at a LOAD rise, at a scan and at a refusal. There are two reports over one walk:
 -- `Words`, the one of document 01, and `Screen`, the segments lit.
 -- Assumes nothing.
-use Prim.Native.Nat.{ℕ, suc, _/_, _%_}
+use Prim.Native.Nat.{ℕ, suc}
 use mathlib.Core.Bool.{Bool, true, false, _&&_}
 use mathlib.Core.List.{List, [], _∷_, _++_}
 use lib.Dec.{eqb}
 use lib.ListN.{take}
+use Rattle.base.specs.Bits.{cut}
 use Rattle.base.specs.Pick.{pick}
 use Rattle.chip.specs.declared.Chip.{Chip}
-use Rattle.chip.specs.declared.Recorded.{Recorded}
-use Rattle.chip.specs.declared.Recorded.the-variants.{Nothing, Key}
-use Rattle.chip.specs.Scans.{scanned, recorded}
+use Rattle.chip.specs.Scans.{Recording, nothing, keyCode, scanned, recorded}
 use Rattle.chip.specs.Segments.{litOf}
 use Rattle.chain.specs.declared.Chain.{Chain}
 use Rattle.capture.specs.declared.Report.{Report}
@@ -23,7 +22,7 @@ screenLine k c = lineFor (0x30 ∷ k ∷ litOf c)
 
 -- of a chip after a LOAD rise: 10, chip, word, high byte first; the word is the register, which the rise obeyed
 abbrev pub riseLine : Report → ℕ → Chip → List ℕ
-riseLine Words k c = lineFor (0x10 ∷ k ∷ (c .line .register / 256) ∷ (c .line .register % 256) ∷ [])
+riseLine Words k c = lineFor (0x10 ∷ k ∷ cut (c .line .register) 8 8 ∷ cut (c .line .register) 0 8 ∷ [])
 riseLine Screen k c = screenLine k c
 
 -- of chips from a number up
@@ -36,9 +35,9 @@ abbrev pub atRise : Report → ℕ → Chain → List ℕ
 atRise what n ch = riseLines what 0 (take n (ch .chips))
 
 -- a recorded key: 11, chip, code
-abbrev pub keyLine : ℕ → Recorded → List ℕ
-keyLine k Nothing = []
-keyLine k (Key code) = lineFor (0x11 ∷ k ∷ code ∷ [])
+abbrev pub keyLine : ℕ → Recording → List ℕ
+keyLine k nothing = []
+keyLine k (keyCode code) = lineFor (0x11 ∷ k ∷ code ∷ [])
 
 -- lists of bytes are the same
 unfoldable pub sameBytes : List ℕ → List ℕ → Bool

@@ -7,7 +7,7 @@ use chip::Recorded;
 ghost use mathlib.Core.Path.{_≡_};
 ghost use Prim.Native.Nat.{_+_, _*_, _≤_, _<_};
 ghost use lib.ListN.{length};
-ghost use Rattle.chip.specs.Scans.{scanned, recorded};
+ghost use Rattle.chip.specs.Scans.{recordingOf};
 ghost use Rattle.capture.specs.Parts as P;
 ghost use Rattle.capture.specs.Reports as R;
 
@@ -40,7 +40,12 @@ fn rise_line(what: Report, k: u8, chip: Chip, out: &mut [u8], at: usize) -> usiz
     match what {
         Report::Words => {
             let w = chip.line.register;
-            let bytes = [0x10, k, (w / 256) as u8, (w % 256) as u8];
+            let bytes = [
+                0x10,
+                k,
+                base::field(w, 8, 8) as u8,
+                base::field(w, 0, 8) as u8,
+            ];
             put::line(&bytes, out, at)
         }
         Report::Screen => screen_line(k, chip, out, at),
@@ -80,8 +85,8 @@ fn same(a: [u8; 8], b: [u8; 8]) -> bool
 
 // A recorded key: 11, chip, code.
 fn key_line(k: u8, what: Recorded, out: &mut [u8], at: usize) -> usize
-    requires { ⌜ at + length (R.keyLine k what) ≤ length (now out) ⌝ }
-    ensures { λ r. ⌜ P.Puts (R.keyLine k what) at (now (out .entry)) r (now (out .exit)) ⌝ }
+    requires { ⌜ at + length (R.keyLine k (recordingOf what)) ≤ length (now out) ⌝ }
+    ensures { λ r. ⌜ P.Puts (R.keyLine k (recordingOf what)) at (now (out .entry)) r (now (out .exit)) ⌝ }
 {
     match what {
         Recorded::Nothing => at,

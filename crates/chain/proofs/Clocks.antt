@@ -2,19 +2,14 @@
 --     between            with the keypad off before the last chip, what a chip takes is the latch before it
 --     held-row           so registers and latches move by themselves, at any sample, LOAD rise or not
 --     fall-rise          a fall and then a rise of DCLK push one bit through the registers
---     clocks             bits clocked with LOAD high, or with LOAD low, go through the registers of the first n chips
---     clocks-load        LOAD after at least one bit is the base's
---     clocks-below       the samples are samples
 --     registers-below    registers of valid chips are below 4096
 --     registers-length   there is a register for each of the first n chips
---     row-clocked        a row's bits leave each chip its word, whatever stood in the registers
 -- Assumes nothing.
-use mathlib.Core.Path.{_≡_, refl, ap, ap₂, sym, _∙_}
-use mathlib.Core.Bool.{Bool, true, false, not, _&&_}
+use mathlib.Core.Path.{_≡_, refl, ap, ap₂, _∙_}
+use mathlib.Core.Bool.{Bool, true, false}
 use mathlib.Core.List.{List, [], _∷_, map}
-use Prim.Native.Nat.{ℕ, zero, suc, _+_, _*_, _/_, _%_, _≤_, _<_, suc-le-suc}
+use Prim.Native.Nat.{ℕ, zero, suc, _+_, _*_, _/_, _%_, _≤_, suc-le-suc}
 use native.Mathlib.Nat.{not-suc-le-zero, le-of-suc-le-suc}
-use native.Mathlib.Omega.{arith}
 use lib.Dec.{T, eqb}
 use lib.ListN.{length}
 use Rattle.base.specs.Pick.{pick}
@@ -24,15 +19,12 @@ use Rattle.base.proofs.Cuts.{cut-lt, cut-zero}
 use Rattle.base.proofs.Tests.{eq-below, and-left, and-right}
 use Rattle.chip.specs.declared.Line.{Line}
 use Rattle.chip.specs.declared.Chip.{Chip}
-use Rattle.chip.specs.Record.{bodyOf, valid}
-use Rattle.chip.specs.Edges.{din, load, dclkFalls, dclkRises, loadRises, clocked, clockedIn, clockedOut, withLine, loaded, stepped}
+use Rattle.chip.specs.Record.{valid}
+use Rattle.chip.specs.Edges.{dclkFalls, dclkRises, loadRises, clocked, clockedIn, clockedOut, withLine, loaded, stepped}
 use Rattle.chip.proofs.Quiet.{loaded-register, loaded-latch, dout-latch}
 use Rattle.chip.proofs.Valid.{valid-facts}
-use Rattle.chain.specs.declared.Chain.{Chain}
-use Rattle.chain.specs.Chain.{allValid, steppedRow, steppedChain, played}
-use Rattle.chain.specs.Shift.{registers, push, pushes, AllBelow, rowBits, clocking, lastOf, KeypadLast, latchRow, Held, heldOf, held, fallen, risen, heldRow, Ready, low, high, Settled, Clocked}
-use Rattle.chain.proofs.Shift.{row-bits-below, row-law}
-use Rattle.chain.proofs.Laws.{row-rest, quiet-chain, lines-kept, keypad-kept}
+use Rattle.chain.specs.Chain.{allValid, steppedRow}
+use Rattle.chain.specs.Shift.{registers, push, AllBelow, KeypadLast, latchRow, Held, heldOf, held, fallen, risen, heldRow}
 
 -- ---- registers and latches alone
 
@@ -105,108 +97,7 @@ fall-rise was mid now d e (h ∷ hs) f s r =
     fell : low-held ≡ fallen h
     fell = pick-yes _ _ f
 
--- what a bit's two samples do with the wires, one after the other: DCLK rises, LOAD stays, DIN is the bit, LOAD is the base's
-abbrev Wires : ℕ → ℕ → Type 0
-Wires base b =
-    (dclkFalls (base + b) (base + 2 + b) ≡ false)
-    × (dclkRises (base + b) (base + 2 + b) ≡ true)
-    × (loadRises (base + b) (base + 2 + b) ≡ false)
-    × (digit (din (base + 2 + b)) ≡ b)
-    × (load (base + 2 + b) ≡ load base)
-
--- and what they do after the levels before them: DCLK falls, LOAD doesn't rise
-record Bit (base b levels : ℕ) : Type 0 where
-  falls : dclkFalls levels (base + b) ≡ true
-  still : loadRises levels (base + b) ≡ false
-  wires : Wires base b
-  ready : Ready base (base + 2 + b)
-
-and-false : (a : Bool) → (a && false) ≡ false
-and-false true = refl
-and-false false = refl
-
-bit-samples : {base levels : ℕ} → Ready base levels → (b : ℕ) → b < 2 → Bit base b levels
-bit-samples (low {levels} e) zero h =
-    record { falls = ap (λ x. x && true) e; still = and-false (not (load levels)); wires = (refl, refl, refl, refl, refl); ready = low refl }
-bit-samples (low {levels} e) (suc zero) h =
-    record { falls = ap (λ x. x && true) e; still = and-false (not (load levels)); wires = (refl, refl, refl, refl, refl); ready = low refl }
-bit-samples (low e) (suc (suc b)) h = absurd (omega arith)
-bit-samples (high e l) zero h =
-    record { falls = ap (λ x. x && true) e; still = ap (λ x. not x && true) l; wires = (refl, refl, refl, refl, refl); ready = high refl refl }
-bit-samples (high e l) (suc zero) h =
-    record { falls = ap (λ x. x && true) e; still = ap (λ x. not x && true) l; wires = (refl, refl, refl, refl, refl); ready = high refl refl }
-bit-samples (high e l) (suc (suc b)) h = absurd (omega arith)
-
--- a bit's two samples in a chain
-one-bit : (n base b : ℕ) (ch : Chain) → Settled n base ch → b < 2 → Clocked n base (b ∷ []) ch (steppedChain n (base + 2 + b) (steppedChain n (base + b) ch))
-unfolding pushes
-one-bit n base b ch s small =
-    record {
-      shifted =
-          sym (registers-held n (done .chips))
-          ∙ ap registersIn (held-row n lo hi (din hi) (mid .chips) (keypad-kept n (ch .chips) (mid .chips) (sym first) (s .keypad)))
-          ∙ ap (λ hs. registersIn (heldRow lo hi (din hi) hs)) (held-row n (ch .levels) lo (din lo) (ch .chips) (s .keypad))
-          ∙ fall-rise (ch .levels) lo hi (din lo) (din hi) (held n (ch .chips)) (w .falls) (w .wires .0) (w .wires .1)
-          ∙ ap₂ push (w .wires .3) (registers-held n (ch .chips));
-      bodies = same;
-      rest = row-rest n lo hi (din hi) (mid .chips) ∙ row-rest n (ch .levels) lo (din lo) (ch .chips);
-      settled =
-          record {
-            keypad = keypad-kept n (ch .chips) (done .chips) (sym same) (s .keypad);
-            lines = lines-kept (ch .chips) (done .chips) (sym same) (s .lines);
-            ready = w .ready;
-          };
-    }
-  where
-    lo : ℕ
-    lo = base + b
-
-    hi : ℕ
-    hi = base + 2 + b
-
-    mid : Chain
-    mid = steppedChain n lo ch
-
-    done : Chain
-    done = steppedChain n hi mid
-
-    w : Bit base b (ch .levels)
-    w = bit-samples (s .ready) b small
-
-    first : map bodyOf (mid .chips) ≡ map bodyOf (ch .chips)
-    first = quiet-chain n lo ch (s .lines) (w .still)
-
-    same : map bodyOf (done .chips) ≡ map bodyOf (ch .chips)
-    same = quiet-chain n hi mid (lines-kept (ch .chips) (mid .chips) (sym first) (s .lines)) (w .wires .2) ∙ first
-
--- ---- any number of bits
-
-pub clocks : (n base : ℕ) (bits : List ℕ) (ch : Chain) → Settled n base ch → AllBelow 2 bits → Clocked n base bits ch (played n (clocking base bits) ch)
-unfolding played clocking pushes
-clocks n base [] ch s small = record { shifted = refl; bodies = refl; rest = refl; settled = s }
-clocks n base (b ∷ bits) ch s small =
-    let one = one-bit n base b ch s (small .0) in
-    let more = clocks n base bits (steppedChain n (base + 2 + b) (steppedChain n (base + b) ch)) (one .settled) (small .1) in
-    record {
-      shifted = more .shifted ∙ ap (pushes bits) (one .shifted);
-      bodies = more .bodies ∙ one .bodies;
-      rest = more .rest ∙ one .rest;
-      settled = more .settled;
-    }
-
-pub clocks-load : {base levels : ℕ} (b : ℕ) (bits : List ℕ) → Ready base levels → AllBelow 2 (b ∷ bits) → load (lastOf levels (clocking base (b ∷ bits))) ≡ load base
-unfolding clocking lastOf
-clocks-load b [] r small = bit-samples r b (small .0) .wires .4
-clocks-load b (x ∷ bits) r small = clocks-load x bits (bit-samples r b (small .0) .ready) (small .1)
-
-pub clocks-below : (base : ℕ) (bits : List ℕ) → base ≤ 4 → AllBelow 2 bits → AllBelow 8 (clocking base bits)
-unfolding clocking
-clocks-below base [] h small = tt
-clocks-below base (b ∷ bits) h small =
-    let c : b < 2 = small .0 in
-    (omega arith, (omega arith, clocks-below base bits h (small .1)))
-
--- ---- a row
+-- ---- the registers of valid chips
 
 pub registers-below : (n : ℕ) (cs : List Chip) → T (allValid n cs) → AllBelow 4096 (registers n cs)
 unfolding registers allValid
@@ -221,9 +112,3 @@ unfolding registers
 registers-length zero cs h = refl
 registers-length (suc n) [] h = absurd (not-suc-le-zero h)
 registers-length (suc n) (c ∷ cs) h = ap suc (registers-length n cs (le-of-suc-le-suc h))
-
-pub row-clocked : (n base : ℕ) (ws : List ℕ) (ch : Chain) → Settled n base ch → n ≤ length (ch .chips) → T (allValid n (ch .chips))
-    → length ws ≡ n → AllBelow 4096 ws → registers n (played n (clocking base (rowBits ws)) ch .chips) ≡ ws
-row-clocked n base ws ch s fits v l below =
-    clocks n base (rowBits ws) ch s (row-bits-below ws) .shifted
-    ∙ row-law ws (registers n (ch .chips)) below (registers-below n (ch .chips) v) (l ∙ sym (registers-length n (ch .chips) fits))

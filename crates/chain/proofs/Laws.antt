@@ -8,8 +8,7 @@
 --     played-valid       and a valid chain stays valid in a block of samples up to 7
 --     quiet-row          with no LOAD rise a sample leaves settings, display and key record of every chip as they are
 --     quiet-chain        the same of a chain
---     lines-kept         chips that differ in line parts only are alike in what clocks can change
---     keypad-kept        and in where the keypad is on
+--     keypad-kept        chips that differ in line parts only are alike in where the keypad is on
 --     one-alone          a scan or a command given to chip k leaves every other chip as it is
 -- Assumes nothing.
 use mathlib.Core.Path.{_≡_, refl, ap, ap₂, sym, _∙_}
@@ -20,7 +19,7 @@ use native.Mathlib.Nat.{le-of-suc-le-suc}
 use native.Mathlib.Omega.{arith}
 use borrow.Author.Tests.{leb-true}
 use lib.Dec.{T, leb, le→leb}
-use lib.ListN.{length, drop}
+use lib.ListN.{drop}
 use lib.Seq.{getD-set-other}
 use Rattle.base.specs.Refusals.{done}
 use Rattle.base.proofs.Picks.{pick-cases}
@@ -29,13 +28,12 @@ use Rattle.chip.specs.declared.Chip.{Chip}
 use Rattle.chip.specs.Record.{Body, bodyOf, valid, resetChip}
 use Rattle.chip.specs.Commands.{dout}
 use Rattle.chip.specs.Edges.{loadRises, din, stepped}
-use Rattle.chip.specs.Quiet.{ClocksMoveLinesOnly}
 use Rattle.chip.proofs.Quiet.{quiet}
 use Rattle.chip.proofs.Valid.{stepped-valid}
 use Rattle.chain.specs.declared.Chain.{Chain}
 use Rattle.chain.specs.Chain.{allValid, validChain, checkedFrom, steppedRow, steppedChain, played}
 use Rattle.chain.specs.Entries.{chipAt, withChip}
-use Rattle.chain.specs.Shift.{AllBelow, LinesOnly, KeypadLast, lastOf}
+use Rattle.chain.specs.Shift.{AllBelow, KeypadLast, lastOf}
 
 -- ---- blocks
 
@@ -93,28 +91,18 @@ played-valid n (s ∷ ss) ch below v =
 
 -- ---- with no LOAD rise
 
-pub quiet-row : (n was now : ℕ) (d : Bool) (cs : List Chip) → LinesOnly cs → loadRises was now ≡ false
+pub quiet-row : (n was now : ℕ) (d : Bool) (cs : List Chip) → loadRises was now ≡ false
     → map bodyOf (steppedRow n was now d cs) ≡ map bodyOf cs
 unfolding steppedRow
-quiet-row zero was now d cs p e = refl
-quiet-row (suc n) was now d [] p e = refl
-quiet-row (suc n) was now d (c ∷ cs) p e = ap₂ (λ x xs. x ∷ xs) (quiet was now d c (p .0) e) (quiet-row n was now (dout c) cs (p .1) e)
+quiet-row zero was now d cs e = refl
+quiet-row (suc n) was now d [] e = refl
+quiet-row (suc n) was now d (c ∷ cs) e = ap₂ (λ x xs. x ∷ xs) (quiet was now d c e) (quiet-row n was now (dout c) cs e)
 
-pub quiet-chain : (n s : ℕ) (ch : Chain) → LinesOnly (ch .chips) → loadRises (ch .levels) s ≡ false
+pub quiet-chain : (n s : ℕ) (ch : Chain) → loadRises (ch .levels) s ≡ false
     → map bodyOf (steppedChain n s ch .chips) ≡ map bodyOf (ch .chips)
 quiet-chain n s ch = quiet-row n (ch .levels) s (din s) (ch .chips)
 
 -- ---- what chips that differ in line parts only share
-
--- what clocks can change isn't a matter of line parts
-same-lines : (c d : Chip) → bodyOf c ≡ bodyOf d → ClocksMoveLinesOnly c → ClocksMoveLinesOnly d
-same-lines c d e p = p
-
-pub lines-kept : (cs ds : List Chip) → map bodyOf cs ≡ map bodyOf ds → LinesOnly cs → LinesOnly ds
-lines-kept [] [] e p = tt
-lines-kept [] (d ∷ ds) e p = absurd (nil≢cons e)
-lines-kept (c ∷ cs) [] e p = tt
-lines-kept (c ∷ cs) (d ∷ ds) e p = (same-lines c d (head-eq-of-cons-eq e) (p .0), lines-kept cs ds (tail-eq-of-cons-eq e) (p .1))
 
 pub keypad-kept : (n : ℕ) (cs ds : List Chip) → map bodyOf cs ≡ map bodyOf ds → KeypadLast n cs → KeypadLast n ds
 keypad-kept zero cs ds e k = tt

@@ -14,18 +14,16 @@ use native.Mathlib.Numerals.{add-one}
 use native.Mathlib.Omega.{arith}
 use lib.Dec.{leb}
 use lib.ListN.{length, getD, set, take, drop, take-append-drop, drop-of-length-le}
-use lib.Seq.{drop-cons, take-suc-set, drop-set-lt, append-snoc}
+use lib.Seq.{drop-cons, take-suc-set, drop-set-lt}
 use Rattle.base.specs.Pick.{pick}
-use Rattle.base.specs.Refusals.{Told, done, refused}
+use Rattle.base.specs.Refusals.{done, refused}
 use Rattle.chip.specs.declared.Chip.{Chip}
 use Rattle.chip.specs.Record.{valid}
 use Rattle.chip.specs.Commands.{dout}
 use Rattle.chip.specs.Edges.{loadRises, stepped}
 use Rattle.chain.specs.declared.Chain.{Chain}
-use Rattle.chain.specs.declared.finder.Rise.{Rise}
-use Rattle.chain.specs.declared.finder.Rise.the-variants.{At, Nothing}
 use Rattle.chain.specs.Chain.{allValid, checkedFrom, steppedRow, steppedChain, played}
-use Rattle.chain.specs.Finder.{riseFrom}
+use Rattle.chain.specs.Finder.{riseAt, noRise, riseFrom}
 
 -- the rest begins with the element at its place
 rest-is {ℓ} : {A : Type ℓ} (xs : List A) (i : ℕ) (d : A) → i < length xs → drop i xs ≡ getD xs i d ∷ drop (i + 1) xs
@@ -110,12 +108,12 @@ play-over n ss i ch h = ap (λ r. played n r ch) (drop-of-length-le ss h)
 -- ---- the next LOAD rise
 
 pub rise-more : (ss : List ℕ) (i was : ℕ) → i < length ss
-    → riseFrom i was (drop i ss) ≡ pick (loadRises was (getD ss i 0)) (At i) (riseFrom (i + 1) (getD ss i 0) (drop (i + 1) ss))
+    → riseFrom i was (drop i ss) ≡ pick (loadRises was (getD ss i 0)) (riseAt i) (riseFrom (i + 1) (getD ss i 0) (drop (i + 1) ss))
 unfolding riseFrom
 rise-more ss i was h =
     ap (riseFrom i was) (rest-is ss i 0 h)
-    ∙ ap (λ n. pick (loadRises was (getD ss i 0)) (At i) (riseFrom n (getD ss i 0) (drop (i + 1) ss))) (sym (add-one i))
+    ∙ ap (λ n. pick (loadRises was (getD ss i 0)) (riseAt i) (riseFrom n (getD ss i 0) (drop (i + 1) ss))) (sym (add-one i))
 
-pub rise-over : (ss : List ℕ) (i was : ℕ) → length ss ≤ i → riseFrom i was (drop i ss) ≡ Nothing
+pub rise-over : (ss : List ℕ) (i was : ℕ) → length ss ≤ i → riseFrom i was (drop i ss) ≡ noRise
 unfolding riseFrom
 rise-over ss i was h = ap (riseFrom i was) (drop-of-length-le ss h)

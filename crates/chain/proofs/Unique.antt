@@ -1,8 +1,7 @@
 -- Any two results that a contract of this crate allows coincide. A contract `r ≡ x` allows one result by `same-answer` of the
 -- base crate, and `tested` and `checked` one verdict by `same-verdict`; here are the entries.
 -- Assumes nothing.
-use mathlib.Core.Path.{_≡_, ap}
-use mathlib.Core.Bool.{Bool}
+use mathlib.Core.Path.{_≡_, refl, ap, sym, _∙_}
 use mathlib.Core.List.{List}
 use Prim.Native.Nat.{ℕ}
 use Rattle.base.specs.Refusals.{Outcome}
@@ -15,7 +14,9 @@ use Rattle.chain.specs.declared.Handed.{Handed}
 use Rattle.chain.specs.declared.Seen.{Seen}
 use Rattle.chain.specs.declared.one.Scanned.{Scanned}
 use Rattle.chain.specs.declared.finder.Found.{Found}
-use Rattle.chain.specs.Finder.{handedFound, foundOf}
+use Rattle.chain.specs.declared.finder.Rise.{Rise}
+use Rattle.chain.specs.declared.finder.Rise.the-variants as Rises
+use Rattle.chain.specs.Finder.{NextRise, riseAt, noRise, nextRiseOf, handedFound, foundOf}
 use Rattle.chain.specs.Entries.{handed, startedOf, playedOf, handedScan, scannedOf, appliedOf, handedLit, segmentsOf, handedSeen, seenOf}
 
 handed-same : {x : Outcome Chain (Unit {0})} (r s : Handed) → handed r ≡ x → handed s ≡ x → r ≡ s
@@ -51,12 +52,21 @@ host-sees-unique n ch r s p q =
     let e = same-answer p q in
     λ i. record { level = ap (λ o. o .state) e i; answer = same-verdict {v = r .answer} {w = s .answer} (ap (λ o. o .told) e) i }
 
+rise-of : NextRise → Rise
+rise-of (riseAt place) = Rises.At place
+rise-of noRise = Rises.Nothing
+
+rise-back : (rise : Rise) → rise-of (nextRiseOf rise) ≡ rise
+unfolding rise-of
+rise-back (Rises.At place) = refl
+rise-back Rises.Nothing = refl
+
 pub next-rise-unique : (levels : ℕ) (ss : List ℕ) (r s : Found) → handedFound r ≡ foundOf levels ss → handedFound s ≡ foundOf levels ss → r ≡ s
 next-rise-unique levels ss r s p q =
     let e = same-answer p q in
     λ i.
     record {
-      rise = ap (λ o. o .state .rise) e i;
+      rise = (sym (rise-back (r .rise)) ∙ ap (λ o. rise-of (o .state .rise)) e ∙ rise-back (s .rise)) i;
       passed = ap (λ o. o .state .passed) e i;
       answer = same-verdict {v = r .answer} {w = s .answer} (ap (λ o. o .told) e) i;
     }

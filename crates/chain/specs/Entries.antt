@@ -2,21 +2,19 @@
 -- Assumes nothing.
 use Prim.Native.Nat.{ℕ, _-_}
 use mathlib.Core.Bool.{Bool, false}
-use mathlib.Core.List.{List, []}
+use mathlib.Core.List.{List}
 use lib.Dec.{ltb}
 use lib.ListN.{getD, set, replicate}
 use Rattle.base.specs.Pick.{pick}
-use Rattle.base.specs.Refusals.{Told, done, refused, refusedBy, Outcome, handsBack, verdictTells}
+use Rattle.base.specs.Refusals.{Told, done, refused, Outcome, handsBack, verdictTells}
 use Rattle.word.specs.declared.Command.{Command}
 use Rattle.word.specs.Words.{legal}
 use Rattle.chip.specs.declared.Chip.{Chip}
-use Rattle.chip.specs.declared.Recorded.{Recorded}
-use Rattle.chip.specs.declared.ScanAnswer.{ScanAnswer}
 use Rattle.chip.specs.declared.Lit.{Lit}
 use Rattle.chip.specs.Record.{blank, resetSettings, resetChip}
 use Rattle.chip.specs.Commands.{applied, dout}
 use Rattle.chip.specs.Edges.{idle}
-use Rattle.chip.specs.Scans.{scanned, recorded}
+use Rattle.chip.specs.Scans.{Recording, scanned, recorded}
 use Rattle.chip.specs.Segments.{litOf}
 use Rattle.chip.specs.Entries as One
 use Rattle.chain.specs.declared.Chain.{Chain}
@@ -72,11 +70,11 @@ chipAt k ch = getD (ch .chips) k resetChip
 abbrev pub withChip : ℕ → Chip → Chain → Chain
 withChip k c ch = record { chips = set (ch .chips) k c; levels = ch .levels }
 
-abbrev pub handedScan : Scanned → Outcome Chain Recorded
+abbrev pub handedScan : Scanned → Outcome Chain Recording
 handedScan r = record { state = r .chain; told = One.scanTells (r .answer) }
 
 -- one scan: refusals 3, 12, 2
-unfoldable pub scannedOf : ℕ → Chain → ℕ → List ℕ → Outcome Chain Recorded
+unfoldable pub scannedOf : ℕ → Chain → ℕ → List ℕ → Outcome Chain Recording
 scannedOf n ch k bytes =
     after (testedOf n ch) ch
     (pick (ltb k n)

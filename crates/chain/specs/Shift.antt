@@ -3,16 +3,13 @@
 -- Assumes nothing.
 use mathlib.Core.Path.{_≡_}
 use Prim.Native.Nat.{ℕ, zero, suc, _+_, _*_, _/_, _%_, _^_, _<_}
-use mathlib.Core.Bool.{Bool, true, false}
-use mathlib.Core.List.{List, [], _∷_, _++_, map}
-use lib.ListN.{length, drop}
+use mathlib.Core.Bool.{Bool, false}
+use mathlib.Core.List.{List, [], _∷_, _++_}
+use lib.ListN.{length}
 use Rattle.base.specs.Pick.{pick}
 use Rattle.base.specs.Bits.{cut, bit}
 use Rattle.chip.specs.declared.Chip.{Chip}
-use Rattle.chip.specs.Record.{bodyOf}
-use Rattle.chip.specs.Edges.{dclk, load, dclkFalls, dclkRises, shifted, stepped}
-use Rattle.chip.specs.Quiet.{ClocksMoveLinesOnly}
-use Rattle.chain.specs.declared.Chain.{Chain}
+use Rattle.chip.specs.Edges.{dclkFalls, dclkRises, shifted, stepped}
 
 -- ---- registers, chip 0 first
 
@@ -115,28 +112,3 @@ risen d h = record { register = shifted (h .register) d; latch = h .latch }
 unfoldable pub heldRow : ℕ → ℕ → Bool → List Held → List Held
 heldRow was now d [] = []
 heldRow was now d (h ∷ hs) = pick (dclkFalls was now) (fallen h) (pick (dclkRises was now) (risen d h) h) ∷ heldRow was now (h .latch) hs
-
--- ---- the chain before and after a stretch of clocks
-
--- no clock edge changes anything but line parts, on any chip of the list; of CH452s this asks nothing (`any-lines` of `demands`)
-abbrev pub LinesOnly : List Chip → Type 0
-LinesOnly [] = Unit {0}
-LinesOnly (c ∷ cs) = ClocksMoveLinesOnly c × LinesOnly cs
-
--- DCLK is high, and the base's LOAD gives no rise: LOAD low whatever it was, or LOAD high that was high
-pub data Ready : ℕ → ℕ → Type 0 where
-  low : {levels : ℕ} → dclk levels ≡ true → Ready 0 levels
-  high : {levels : ℕ} → dclk levels ≡ true → load levels ≡ true → Ready 4 levels
-
--- a chain into which bits can be clocked: what a stretch of clocks asks for, and gives back
-pub record Settled (n base : ℕ) (ch : Chain) : Type 0 where
-  pub keypad : KeypadLast n (ch .chips)
-  pub lines : LinesOnly (ch .chips)
-  pub ready : Ready base (ch .levels)
-
--- what a stretch of clocks does: the bits go through the registers of the first n chips, and nothing else moves but latches and readouts
-pub record Clocked (n base : ℕ) (bits : List ℕ) (before after : Chain) : Type 0 where
-  pub shifted : registers n (after .chips) ≡ pushes bits (registers n (before .chips))
-  pub bodies : map bodyOf (after .chips) ≡ map bodyOf (before .chips)
-  pub rest : drop n (after .chips) ≡ drop n (before .chips)
-  pub settled : Settled n base after

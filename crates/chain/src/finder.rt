@@ -25,7 +25,7 @@ struct Way {
 
 // Looks for the next LOAD rise and stops at it.
 fn looked(levels: u8, samples: &[u8]) -> Way
-    ensures { λ r. ⌜ r ≡ F.lookedOf levels (now (samples .entry)) ⌝ }
+    ensures { λ r. ⌜ F.reportOf r ≡ F.lookedOf levels (now (samples .entry)) ⌝ }
 {
     let mut was = levels;
     let mut passed = 0;

@@ -1,5 +1,6 @@
 -- One segment made on or off changes the byte of one digit.
 --     segment-is      ADDR = 8·SEG + DIG: DIG's byte with bit SEG made
+--     segment-at      the same, of a DIG and a SEG that were cut out of ADDR
 --     segment-none    an address past the 64 changes nothing
 -- Assumes nothing.
 use mathlib.Core.Path.{_≡_, refl, ap, sym, _∙_}
@@ -74,3 +75,8 @@ module _ (on : Bool) (addr : ℕ) (ds : List ℕ) (eight : length ds ≡ 8) (byt
   pub segment-is : (byte : ℕ) → byte ≡ byteOf (λ s. pick (eqb s (addr / 8)) on (bit (getD ds (addr % 8) 0) s)) → segment on addr ds ≡ set ds (addr % 8) byte
   unfolding segment
   segment-is byte made = lit-is lighting (set ds (addr % 8) byte) (length-set ds (addr % 8) byte ∙ eight) (λ dig h. one-digit byte dig h made)
+
+  pub segment-at : (dig seg : ℕ) → dig ≡ addr % 8 → seg ≡ addr / 8 → (byte : ℕ)
+      → byte ≡ byteOf (λ s. pick (eqb s seg) on (bit (getD ds dig 0) s)) → segment on addr ds ≡ set ds dig byte
+  segment-at dig seg d s byte made =
+      segment-is byte (made ∙ λ i. byteOf (λ t. pick (eqb t (s i)) on (bit (getD ds (d i) 0) t))) ∙ ap (λ k. set ds k byte) (sym d)

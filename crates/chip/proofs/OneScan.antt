@@ -21,10 +21,9 @@ use borrow.Author.Tests.{eq-eqb, ne-eqb, eqb-true, not-true}
 use Rattle.base.proofs.Picks.{pick-yes, pick-no, pick-cases}
 use Rattle.chip.specs.declared.Chip.{Chip}
 use Rattle.chip.specs.declared.Keys.{Keys}
-use Rattle.chip.specs.declared.Recorded.{Recorded}
 use Rattle.chip.specs.Record.{none}
 use Rattle.chip.specs.Commands.{withKeys}
-use Rattle.chip.specs.Scans.{codeOf, released, newKey, bothNone, keyed, wakes, scannedBy, recordedBy}
+use Rattle.chip.specs.Scans.{codeOf, released, newKey, bothNone, keyed, wakes, scannedBy, Recording, recordedBy}
 use Rattle.chip.specs.History.{isKey}
 
 -- both tests passed
@@ -47,7 +46,7 @@ pub recorded-new : (code r : ℕ) (c : Chip) → isKey code (recordedBy r c) ≡
     → (c .settings .sleeping ≡ false) × (c .settings .system .keyb ≡ true) × (newKey r (c .keys) ≡ true) × (codeOf r ≡ code)
 unfolding recordedBy
 recorded-new code r c =
-    pick-cases (λ (what : Recorded). isKey code what ≡ true → (c .settings .sleeping ≡ false) × (c .settings .system .keyb ≡ true) × (newKey r (c .keys) ≡ true) × (codeOf r ≡ code))
+    pick-cases (λ (what : Recording). isKey code what ≡ true → (c .settings .sleeping ≡ false) × (c .settings .system .keyb ≡ true) × (newKey r (c .keys) ≡ true) × (codeOf r ≡ code))
     (not (c .settings .sleeping) && c .settings .system .keyb && newKey r (c .keys))
     (λ t e.
     let n = and-yes (not (c .settings .sleeping) && c .settings .system .keyb) (newKey r (c .keys)) t in

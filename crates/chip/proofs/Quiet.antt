@@ -29,7 +29,6 @@ use Rattle.chip.specs.Record.{Body, bodyOf, none}
 use Rattle.chip.specs.Commands.{applied, appliedWord, obey, woken, reset, system, readKey, withKeys, withSleeping, dout}
 use Rattle.chip.specs.Edges.{loaded, stepped, clocked, withLine, loadRises}
 use Rattle.chip.specs.Scans.{scannedBy, recordedBy, wakes, keyed}
-use Rattle.chip.specs.Quiet.{ClocksMoveLinesOnly}
 
 -- ---- samples
 
@@ -42,8 +41,8 @@ pub stepped-load : (was now : ℕ) (d : Bool) (c : Chip) → loadRises was now �
 unfolding stepped
 stepped-load was now d c e = pick-yes _ _ e
 
-pub quiet : (was now : ℕ) (d : Bool) (c : Chip) → ClocksMoveLinesOnly c → loadRises was now ≡ false → bodyOf (stepped was now d c) ≡ bodyOf c
-quiet was now d c p e = ap bodyOf (moved was now d c e)
+pub quiet : (was now : ℕ) (d : Bool) (c : Chip) → loadRises was now ≡ false → bodyOf (stepped was now d c) ≡ bodyOf c
+quiet was now d c e = ap bodyOf (moved was now d c e)
 
 pub stepped-line : (was now : ℕ) (d : Bool) (c : Chip) → loadRises was now ≡ false → stepped was now d c .line ≡ clocked was now d (c .line)
 stepped-line was now d c e = ap (λ (x : Chip). x .line) (moved was now d c e)

@@ -10,11 +10,13 @@ use Rattle.base.proofs.Unique.{same-answer, same-verdict}
 use Rattle.word.specs.declared.Command.{Command}
 use Rattle.chip.specs.declared.Chip.{Chip}
 use Rattle.chip.specs.declared.Recorded.{Recorded}
+use Rattle.chip.specs.declared.Recorded.the-variants as Records
 use Rattle.chip.specs.declared.Handed.{Handed}
 use Rattle.chip.specs.declared.Scanned.{Scanned}
 use Rattle.chip.specs.declared.ScanAnswer.{ScanAnswer}
 use Rattle.chip.specs.declared.ScanAnswer.the-variants.{Took, Refused}
 use Rattle.chip.specs.declared.Lit.{Lit}
+use Rattle.chip.specs.Scans.{Recording, nothing, keyCode, recordingOf}
 use Rattle.chip.specs.Entries.{handed, appliedOf, sampledOf, scanTells, handedScan, scannedOf, handedLit, segmentsOf}
 
 -- ---- what is handed back is told
@@ -24,13 +26,28 @@ handed-same r s p q =
     let e = same-answer p q in
     λ i. record { chip = ap (λ o. o .state) e i; answer = same-verdict {v = r .answer} {w = s .answer} (ap (λ o. o .told) e) i }
 
-answered : Told Recorded → ScanAnswer
-answered (done what) = Took what
+-- the answer of a value, and back
+pub record-of : Recording → Recorded
+record-of nothing = Records.Nothing
+record-of (keyCode code) = Records.Key code
+
+record-back : (what : Recorded) → record-of (recordingOf what) ≡ what
+unfolding record-of
+record-back Records.Nothing = refl
+record-back (Records.Key code) = refl
+
+pub recording-back : (what : Recording) → recordingOf (record-of what) ≡ what
+unfolding record-of
+recording-back nothing = refl
+recording-back (keyCode code) = refl
+
+answered : Told Recording → ScanAnswer
+answered (done what) = Took (record-of what)
 answered (refused number place) = Refused (refusalOf number place)
 
 answered-back : (a : ScanAnswer) → answered (scanTells a) ≡ a
 unfolding answered
-answered-back (Took what) = refl
+answered-back (Took what) = ap Took (record-back what)
 answered-back (Refused e) = ap Refused (refusal-back e)
 
 pub same-scan-answer : {a b : ScanAnswer} → scanTells a ≡ scanTells b → a ≡ b

@@ -8,7 +8,6 @@ use Rattle.base.specs.Refusals.{Told, done, refusedBy, Outcome, handsBack, verd
 use Rattle.word.specs.declared.Command.{Command}
 use Rattle.word.specs.Words.{legal}
 use Rattle.chip.specs.declared.Chip.{Chip}
-use Rattle.chip.specs.declared.Recorded.{Recorded}
 use Rattle.chip.specs.declared.Handed.{Handed}
 use Rattle.chip.specs.declared.Scanned.{Scanned}
 use Rattle.chip.specs.declared.ScanAnswer.{ScanAnswer}
@@ -18,7 +17,7 @@ use Rattle.chip.specs.Record.{valid, blank}
 use Rattle.chip.specs.Commands.{applied}
 use Rattle.chip.specs.Edges.{din, stepped}
 use Rattle.chip.specs.Segments.{litOf}
-use Rattle.chip.specs.Scans.{scanned, recorded}
+use Rattle.chip.specs.Scans.{Recording, recordingOf, scanned, recorded}
 
 -- a chip handed back
 abbrev pub handed : Handed → Outcome Chip (Unit {0})
@@ -41,16 +40,16 @@ sampledOf c levels sample =
     (handsBack c 12 0)
 
 -- what a scan's answer tells
-abbrev pub scanTells : ScanAnswer → Told Recorded
-scanTells (Scan.Took what) = done what
+abbrev pub scanTells : ScanAnswer → Told Recording
+scanTells (Scan.Took what) = done (recordingOf what)
 scanTells (Scan.Refused e) = refusedBy e
 
 -- a scanned chip handed back, with what was recorded
-abbrev pub handedScan : Scanned → Outcome Chip Recorded
+abbrev pub handedScan : Scanned → Outcome Chip Recording
 handedScan r = record { state = r .chip; told = scanTells (r .answer) }
 
 -- one scan: refusal 12
-unfoldable pub scannedOf : Chip → List ℕ → Outcome Chip Recorded
+unfoldable pub scannedOf : Chip → List ℕ → Outcome Chip Recording
 scannedOf c bytes = pick (valid c) (record { state = scanned bytes c; told = done (recorded bytes c) }) (handsBack c 12 0)
 
 -- eight bytes of segments, zeros where refused

@@ -11,11 +11,9 @@ use Rattle.word.specs.declared.System.{System}
 use Rattle.word.specs.declared.Command.{Command}
 use Rattle.word.specs.declared.Command.the-variants.{Reset, Sleep, SystemParameters}
 use Rattle.chip.specs.declared.Chip.{Chip}
-use Rattle.chip.specs.declared.Recorded.{Recorded}
-use Rattle.chip.specs.declared.Recorded.the-variants.{Nothing, Key}
 use Rattle.chip.specs.Record.{none}
 use Rattle.chip.specs.Commands.{applied}
-use Rattle.chip.specs.Scans.{result, scanned, recorded}
+use Rattle.chip.specs.Scans.{Recording, nothing, keyCode, result, scanned, recorded}
 
 -- one step: a command applied directly, or a scan with eight bytes
 pub data Step : Type 0 where
@@ -29,18 +27,18 @@ after (told command ∷ h) c = after h (applied command c)
 after (scan bytes ∷ h) c = after h (scanned bytes c)
 
 -- what each scan of a history recorded, in order; commands record nothing
-abbrev pub recordsOf : List Step → Chip → List Recorded
+abbrev pub recordsOf : List Step → Chip → List Recording
 recordsOf [] c = []
 recordsOf (told command ∷ h) c = recordsOf h (applied command c)
 recordsOf (scan bytes ∷ h) c = recorded bytes c ∷ recordsOf h (scanned bytes c)
 
 -- whether a scan recorded a code
-abbrev pub isKey : ℕ → Recorded → Bool
-isKey code Nothing = false
-isKey code (Key k) = eqb k code
+abbrev pub isKey : ℕ → Recording → Bool
+isKey code nothing = false
+isKey code (keyCode k) = eqb k code
 
 -- how many of the records are a code's
-abbrev pub countOf : ℕ → List Recorded → ℕ
+abbrev pub countOf : ℕ → List Recording → ℕ
 countOf code [] = 0
 countOf code (what ∷ rest) = digit (isKey code what) + countOf code rest
 

@@ -1,7 +1,6 @@
 pub mod Record
 pub mod Commands
 pub mod Edges
-pub mod Quiet
 pub mod Segments
 pub mod Scans
 pub mod History

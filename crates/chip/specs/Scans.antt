@@ -15,6 +15,16 @@ use Rattle.chip.specs.declared.Recorded.the-variants.{Nothing, Key}
 use Rattle.chip.specs.Record.{none}
 use Rattle.chip.specs.Commands.{withKeys, withSleeping}
 
+-- what a scan records, by document 01's values: nothing, or a code
+pub data Recording : Type 0 where
+  nothing : Recording
+  keyCode : ℕ → Recording
+
+-- the value of each case of the answer
+abbrev pub recordingOf : Recorded → Recording
+recordingOf Nothing = nothing
+recordingOf (Key code) = keyCode code
+
 -- byte d, bit s is the contact of DIG d and SEG s, whose address is 8·s + d
 abbrev pub closed : List ℕ → ℕ → Bool
 closed bytes addr = bit (getD bytes (addr % 8) 0) (addr / 8)
@@ -71,16 +81,25 @@ scannedBy r c =
     (pick (c .settings .system .keyb) (withKeys (keyed r (c .keys)) c) c)
 
 -- what a scan with a result records: asleep or with KEYB off nothing
-unfoldable pub recordedBy : ℕ → Chip → Recorded
+unfoldable pub recordedBy : ℕ → Chip → Recording
 recordedBy r c =
-    pick (not (c .settings .sleeping) && c .settings .system .keyb && newKey r (c .keys)) (Key (codeOf r)) Nothing
+    pick (not (c .settings .sleeping) && c .settings .system .keyb && newKey r (c .keys)) (keyCode (codeOf r)) nothing
 
 abbrev pub scanned : List ℕ → Chip → Chip
 scanned bytes c = scannedBy (result bytes) c
 
-abbrev pub recorded : List ℕ → Chip → Recorded
+abbrev pub recorded : List ℕ → Chip → Recording
 recorded bytes c = recordedBy (result bytes) c
 
+-- a chip after a scan, and what the scan recorded
+pub record Took : Type 0 where
+  pub chip : Chip
+  pub recorded : Recording
+
+-- what the step that takes a scan answers
+abbrev pub tookOf : Taken → Took
+tookOf t = record { chip = t .chip; recorded = recordingOf (t .recorded) }
+
 -- the step that takes a scan
-abbrev pub taken : List ℕ → Chip → Taken
+abbrev pub taken : List ℕ → Chip → Took
 taken bytes c = record { chip = scanned bytes c; recorded = recorded bytes c }

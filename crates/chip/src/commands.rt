@@ -99,9 +99,10 @@ fn segment(on: bool, addr: u8, digits: [u8; 8]) -> [u8; 8]
     if addr > 63 {
         return digits;
     }
-    let dig = (addr % 8) as usize;
+    let wide = addr as u16;
+    let dig = base::field(wide, 0, 3) as usize;
     let mut ds = digits;
-    let byte = with_bit(digits[dig], addr / 8, on);
+    let byte = with_bit(digits[dig], base::field(wide, 3, 3) as u8, on);
     ds[dig] = byte;
     ds
 }

@@ -7,12 +7,13 @@ ghost use mathlib.Core.Path.{_≡_};
 ghost use Prim.Native.Nat.{_≤_};
 ghost use Rattle.chip.specs.Scans as S;
 
-// Whether the contact of an address is closed: byte addr % 8, bit addr / 8.
+// Whether the contact of an address is closed: the low three bits are the byte, the others the bit.
 fn is_closed(bytes: [u8; 8], addr: u8) -> bool
     ensures { λ r. ⌜ r ≡ S.closed bytes addr ⌝ }
 {
-    let dig = (addr % 8) as usize;
-    base::field(bytes[dig] as u16, (addr / 8) as u16, 1) == 1
+    let wide = addr as u16;
+    let dig = base::field(wide, 0, 3) as usize;
+    base::field(bytes[dig] as u16, base::field(wide, 3, 5), 1) == 1
 }
 
 // The smallest closed address, or NONE.
@@ -91,7 +92,7 @@ fn scanned_by(r: u8, chip: Chip) -> Chip
 // What a scan with a result records.
 fn recorded_by(r: u8, chip: Chip) -> Recorded
     requires { ⌜ r ≤ 64 ⌝ }
-    ensures { λ what. ⌜ what ≡ S.recordedBy r chip ⌝ }
+    ensures { λ what. ⌜ S.recordingOf what ≡ S.recordedBy r chip ⌝ }
 {
     if chip.settings.sleeping {
         return Recorded::Nothing;
@@ -114,7 +115,7 @@ pub struct Taken {
 
 // One scan of a chip.
 pub fn scanned(bytes: [u8; 8], chip: Chip) -> Taken
-    ensures { λ t. ⌜ t ≡ S.taken bytes chip ⌝ }
+    ensures { λ t. ⌜ S.tookOf t ≡ S.taken bytes chip ⌝ }
 {
     let r = result(bytes);
     Taken {

@@ -15,18 +15,16 @@ use lib.Seq.{getD-set-same}
 use borrow.Author.Tests.{eqb-true, eqb-false}
 use Rattle.base.specs.Pick.{pick}
 use Rattle.base.specs.Refusals.{Told, done, refused}
-use Rattle.base.proofs.Picks.{pick-yes, pick-no, pick-cases}
+use Rattle.base.proofs.Picks.{pick-no, pick-cases}
 use Rattle.word.specs.declared.Command.{Command}
-use Rattle.word.specs.declared.Command.the-variants.{NoOperation}
 use Rattle.word.specs.Words.{decodedOf}
 use Rattle.chip.specs.declared.Chip.{Chip}
-use Rattle.chip.specs.declared.Recorded.{Recorded}
 use Rattle.chip.specs.Record.{Body, bodyOf, resetChip}
-use Rattle.chip.specs.Commands.{applied, appliedWord, obey, woken}
+use Rattle.chip.specs.Commands.{applied, appliedWord, obey}
 use Rattle.chip.specs.Edges.{loadRises, din}
-use Rattle.chip.specs.Scans.{result, wakes, keyed, scannedBy, scannedAsleep, scanned, recorded, codeOf}
+use Rattle.chip.specs.Scans.{result, wakes, scannedBy, scanned, recorded, codeOf}
 use Rattle.chip.specs.Segments.{litOf}
-use Rattle.chip.specs.History.{Step, told, recordsOf, countOf, times}
+use Rattle.chip.specs.History.{Step, recordsOf, countOf, times}
 use Rattle.chip.specs.History as History
 use Rattle.chip.proofs.Quiet.{body-word, body-scanned, recorded-body}
 use Rattle.chip.proofs.Once.{once, once-broken}
@@ -38,7 +36,7 @@ use Rattle.chain.proofs.Rest.{row-length}
 use Rattle.demands.specs.Events.{Event, sample, scan, samplesIn, wordFor, toldAt, rowsAfter, stepsFor, commandOf}
 use Rattle.demands.specs.Answers.{OnlyLoadRises, ScansChangeNoDigit, ScansChangeOneChip, OneCode, OneCodeBroken, EachTookItsOwn, obeyed, historyOf, recordsIn, scansIn, scansOf}
 use Rattle.writer.specs.Rows.{rowsOf}
-use Rattle.demands.proofs.Chips.{part-at, obeys-at, any-lines}
+use Rattle.demands.proofs.Chips.{part-at, obeys-at}
 use Rattle.demands.proofs.Demand3.{demand-3}
 use Rattle.demands.proofs.Corollaries.{own-words}
 
@@ -54,8 +52,8 @@ map-lit [] = refl
 map-lit (c ∷ cs) = ap (λ r. litOf c ∷ r) (map-lit cs)
 
 pub answer-1 : OnlyLoadRises
-answer-1 n s ch lines e =
-    let same = quiet-chain n s ch lines e in
+answer-1 n s ch e =
+    let same = quiet-chain n s ch e in
     (same, map-lit (steppedChain n s ch .chips) ∙ ap (map litBody) same ∙ sym (map-lit (ch .chips)))
 
 digits-kept : (r : ℕ) (c : Chip) → scannedBy r c .digits ≡ c .digits
@@ -114,7 +112,7 @@ module _ (n k : ℕ) (h : k < n) (most-so : n ≤ most) where
       (obeys-at n s ch high k h place ∙ body-word word (chipAt k ch) c body ∙ ap bodyOf (obeyed-so word c)))
       (λ low.
       records-same es next c size′
-      (part-at bodyOf (next .chips) (ch .chips) k resetChip (quiet-chain n s ch (any-lines (ch .chips)) low) ∙ body))
+      (part-at bodyOf (next .chips) (ch .chips) k resetChip (quiet-chain n s ch low) ∙ body))
     where
       next : Chain
       next = steppedChain n s ch

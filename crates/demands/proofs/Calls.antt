@@ -27,6 +27,7 @@ use Rattle.chip.specs.declared.ScanAnswer.the-variants as Scans
 use Rattle.chip.specs.Record.{bodyOf}
 use Rattle.chip.specs.Edges.{din, loadRises}
 use Rattle.chip.specs.Scans.{recorded}
+use Rattle.chip.proofs.Unique.{record-of, recording-back}
 use Rattle.chain.specs.declared.Chain.{Chain}
 use Rattle.chain.specs.Chain.{most, chipCount, checkedFrom}
 use Rattle.chain.specs.Shift.{Held, heldRow, held}
@@ -164,7 +165,8 @@ module _ (n : ℕ) (fits : n ≤ most) (count : T (chipCount n)) where
       let step = chip-scanned k bytes more ch rows (below .0) g in
       let next = happened n (Events.scan k bytes ∷ []) ch in
       let later = run-calls rest calls next rows (step .1) (below .1) in
-      (later .0, scanned (record { chain = next; answer = Scans.Took (recorded bytes (chipAt k ch)) }) (sym (step .0)) (later .1))
+      let what = recorded bytes (chipAt k ch) in
+      (later .0, scanned (record { chain = next; answer = Scans.Took (record-of what) }) (ap (λ w. record { state = next; told = done w }) (recording-back what) ∙ sym (step .0)) (later .1))
 
 -- ---- the theorem
 

@@ -6,7 +6,6 @@
 --     scan-body          a scan is a step of the chip that it names, and of no other
 --     scan-keypad        it leaves the keypad as it is on every chip
 --     scan-held          and the registers and latches
---     any-lines          no clock edge changes anything but line parts, on any CH452
 -- Assumes nothing.
 use mathlib.Core.Path.{_≡_, refl, ap, sym, subst, _∙_}
 use mathlib.Core.Bool.{Bool, true, false}
@@ -15,24 +14,23 @@ use Prim.Native.Nat.{ℕ, zero, suc, _≤_, _<_, suc-le-suc}
 use native.Mathlib.Nat.{not-suc-le-zero, le-of-suc-le-suc, zero-lt-suc, lt-of-lt-of-le}
 use native.Mathlib.Omega.{arith}
 use borrow.Author.Tests.{eqb-true, eqb-false}
-use lib.Dec.{T, eqb}
-use lib.ListN.{length, getD, set, take, length-set, List·getD-map}
+use lib.Dec.{eqb}
+use lib.ListN.{length, getD, take, length-set, List·getD-map}
 use lib.Seq.{getD-set-same, map-set-same}
 use Rattle.base.specs.Refusals.{Told, done, refused}
 use Rattle.base.proofs.Picks.{pick-cases}
-use Rattle.base.proofs.Tests.{and-left, and-right, and-both}
 use Rattle.word.specs.Words.{decodedOf}
 use Rattle.word.specs.declared.Command.{Command}
 use Rattle.chip.specs.declared.Chip.{Chip}
-use Rattle.chip.specs.Record.{Body, bodyOf, valid, resetChip}
+use Rattle.chip.specs.Record.{Body, bodyOf, resetChip}
 use Rattle.chip.specs.Commands.{appliedWord, dout}
 use Rattle.chip.specs.Edges.{din, loadRises, clocked, withLine, loaded, stepped}
 use Rattle.chip.specs.Scans.{result, scanned}
 use Rattle.chip.specs.History.{Step, after}
 use Rattle.chip.proofs.Quiet.{stepped-load, body-word, loaded-register, keyb-scanned, line-scanned}
 use Rattle.chain.specs.declared.Chain.{Chain}
-use Rattle.chain.specs.Chain.{allValid, steppedRow, steppedChain}
-use Rattle.chain.specs.Shift.{KeypadLast, LinesOnly, heldOf, held}
+use Rattle.chain.specs.Chain.{steppedRow, steppedChain}
+use Rattle.chain.specs.Shift.{KeypadLast, heldOf, held}
 use Rattle.chain.specs.Entries.{chipAt, withChip}
 use Rattle.chain.proofs.Laws.{quiet-chain, keypad-kept, one-alone}
 use Rattle.chain.proofs.Rest.{row-length}
@@ -112,13 +110,13 @@ fit-keyb : (n k : ℕ) (o : Told Command) (c : Chip) → Fit n k o → suc k < n
 fit-keyb n k (done command) c f h e = keyb-applied command c (f h) e
 fit-keyb n k (refused number place) c f h e = absurd f
 
-module _ (n s : ℕ) (ch : Chain) (fits : n ≤ length (ch .chips)) (lines : LinesOnly (ch .chips)) where
+module _ (n s : ℕ) (ch : Chain) (fits : n ≤ length (ch .chips)) where
   pub sample-body : (rises : Bool) (rows : List (List ℕ)) → loadRises (ch .levels) s ≡ rises
       → Fits n rows
       → AtSample rises rows (held n (steppedChain n s ch .chips))
       → (k : ℕ) → k < n
       → bodyOf (chipAt k (steppedChain n s ch)) ≡ bodyOf (after (toldAt k rises rows) (chipAt k ch))
-  sample-body false rows e f a k h = part-at bodyOf (steppedChain n s ch .chips) (ch .chips) k resetChip (quiet-chain n s ch lines e)
+  sample-body false rows e f a k h = part-at bodyOf (steppedChain n s ch .chips) (ch .chips) k resetChip (quiet-chain n s ch e)
   sample-body true [] e f a k h = absurd a
   sample-body true (row ∷ rows) e f a k h =
       let l : k < length (ch .chips) = lt-of-lt-of-le h fits in
@@ -133,7 +131,7 @@ module _ (n s : ℕ) (ch : Chain) (fits : n ≤ length (ch .chips)) (lines : Lin
       → AtSample rises rows (held n (steppedChain n s ch .chips))
       → KeypadLast n (ch .chips)
       → KeypadLast n (steppedChain n s ch .chips)
-  sample-keypad false rows e f a p = keypad-kept n (ch .chips) (steppedChain n s ch .chips) (sym (quiet-chain n s ch lines e)) p
+  sample-keypad false rows e f a p = keypad-kept n (ch .chips) (steppedChain n s ch .chips) (sym (quiet-chain n s ch e)) p
   sample-keypad true [] e f a p = absurd a
   sample-keypad true (row ∷ rows) e f a p =
       keypad-all n (steppedChain n s ch .chips) resetChip
@@ -181,9 +179,3 @@ module _ (n j : ℕ) (bytes : List ℕ) (ch : Chain) where
       (map-set-same heldOf (ch .chips) j (scanned bytes (chipAt j ch)) resetChip
       (ap (λ l. record { register = l .register; latch = l .latch }) (line-scanned (result bytes) (chipAt j ch))))
       ∙ sym (held-take n (ch .chips))
-
--- ---- the premise that is trivial today
-
-pub any-lines : (cs : List Chip) → LinesOnly cs
-any-lines [] = tt
-any-lines (c ∷ cs) = (tt, any-lines cs)

@@ -85,9 +85,9 @@ happened-append n [] fs ch = refl
 happened-append n (e ∷ es) fs ch = happened-append n es fs (happens n e ch)
 
 pub no-other-sample : NoOtherSample
-no-other-sample n ch es s lines e k =
+no-other-sample n ch es s e k =
     ap (λ x. bodyOf (chipAt k x)) (happened-append n es (sample s ∷ []) ch)
-    ∙ part-at bodyOf (steppedChain n s (happened n es ch) .chips) (happened n es ch .chips) k resetChip (quiet-chain n s (happened n es ch) lines e)
+    ∙ part-at bodyOf (steppedChain n s (happened n es ch) .chips) (happened n es ch .chips) k resetChip (quiet-chain n s (happened n es ch) e)
 
 -- ---- writes follow one another
 
@@ -104,7 +104,6 @@ premises-again n ch ws asked es whole vs accepted =
         count = asked .chain .count;
         places = g .standing .size;
         valid = g .standing .valid;
-        lines = g .standing .lines;
         dclkHigh = g .writes .1;
         loadHigh = g .writes .2;
         keypad = g .standing .keypad;

@@ -38,7 +38,7 @@ module _ (n : ℕ) (ch : Chain) (ws : List ℕ) (asked : Asked n ch ws) where
       let fit = rows-accepted n ws (asked .accepted) in
       let same = registers-held n (ch .chips) in
       record {
-        standing = record { size = asked .chain .places; lines = asked .chain .lines; valid = asked .chain .valid; keypad = asked .chain .keypad };
+        standing = record { size = asked .chain .places; valid = asked .chain .valid; keypad = asked .chain .keypad };
         fit = fit;
         writes =
             subst (Writes (ch .levels) (held n (ch .chips)) (rowsOf n ws)) (sym whole)

@@ -1,12 +1,11 @@
 -- The events of demand 3 and the entries of a chain: what happens is what `play` and `scan` do, and neither is refused.
 --     start-asked      a chain as `start` gives it is as demand 3 asks
 --     going-tested     a chain in the middle of a write passes the tests that come first in every entry
---     never-refused    so does the chain after any beginning of a play, with any scans
 --     play-happens     so `play` leaves what its samples as events leave
 --     scan-happens     and `scan` what its scan as an event leaves
 -- Assumes nothing.
 use mathlib.Core.Path.{_≡_, refl, ap, _∙_}
-use mathlib.Core.List.{List, [], _∷_, _++_, map}
+use mathlib.Core.List.{List, [], _∷_, map}
 use Prim.Native.Nat.{ℕ, zero, suc, _<_}
 use lib.Dec.{T}
 use lib.ListN.{replicate}
@@ -18,12 +17,10 @@ use Rattle.chain.specs.Chain.{most, chipCount, testedOf, checkedFrom, steppedCh
 use Rattle.chain.specs.Shift.{KeypadLast}
 use Rattle.chain.specs.Entries.{chipAt, startChain, playedOf, scannedOf}
 use Rattle.chain.proofs.Passed.{tests-pass, start-valid, play-done, scan-done}
-use Rattle.writer.specs.Rows.{rowsOf, written, listTest}
-use Rattle.demands.specs.Events.{Event, sample, scan, happened, samplesIn}
+use Rattle.writer.specs.Rows.{listTest}
+use Rattle.demands.specs.Events.{sample, scan, happened}
 use Rattle.demands.specs.Demand3.{Asked}
-use Rattle.demands.proofs.Chips.{any-lines}
-use Rattle.demands.proofs.Going.{Going, rowsLeft}
-use Rattle.demands.proofs.Corollaries.{in-between}
+use Rattle.demands.proofs.Going.{Going}
 
 -- ---- the start
 
@@ -40,7 +37,6 @@ start-asked n ws count accepted =
         count = count;
         places = refl;
         valid = start-valid n;
-        lines = any-lines (replicate most resetChip);
         dclkHigh = refl;
         loadHigh = refl;
         keypad = resets-off n most;
@@ -52,11 +48,6 @@ start-asked n ws count accepted =
 
 pub going-tested : (n : ℕ) (ch : Chain) (rows : List (List ℕ)) (ss : List ℕ) → T (chipCount n) → Going n most ch rows ss → testedOf n ch ≡ done tt
 going-tested n ch rows ss count g = tests-pass n ch count (g .standing .valid)
-
-pub never-refused : (n : ℕ) (ch : Chain) (ws : List ℕ) → Asked n ch ws → (es : List Event) (rest : List ℕ) → samplesIn es ++ rest ≡ written n ws
-    → testedOf n (happened n es ch) ≡ done tt
-never-refused n ch ws asked es rest whole =
-    going-tested n (happened n es ch) (rowsLeft (ch .levels) (rowsOf n ws) es) rest (asked .chain .count) (in-between n ch ws asked es rest whole)
 
 -- ---- the entries
 

@@ -13,7 +13,7 @@ use Prim.Native.Nat.{ℕ, _≤_, _<_}
 use native.Mathlib.Nat.{lt-of-lt-of-le}
 use lib.Dec.{T, leb, le→leb}
 use lib.ListN.{length, length-set}
-use Rattle.base.proofs.Tests.{and-left, and-right, and-both}
+use Rattle.base.proofs.Tests.{and-left, and-both}
 use Rattle.chip.specs.declared.Chip.{Chip}
 use Rattle.chip.specs.Record.{bodyOf}
 use Rattle.chip.specs.Edges.{din, loadRises}
@@ -23,7 +23,7 @@ use Rattle.chip.specs.History as History
 use Rattle.chip.proofs.Quiet.{body-applied, body-scanned}
 use Rattle.chain.specs.declared.Chain.{Chain}
 use Rattle.chain.specs.Chain.{allValid, validChain, steppedChain}
-use Rattle.chain.specs.Shift.{KeypadLast, LinesOnly, held}
+use Rattle.chain.specs.Shift.{KeypadLast, held}
 use Rattle.chain.specs.Entries.{chipAt, withChip}
 use Rattle.chain.proofs.Laws.{row-valid}
 use Rattle.chain.proofs.Passed.{scan-valid}
@@ -32,12 +32,11 @@ use Rattle.chain.proofs.Clocks.{held-row}
 use Rattle.demands.specs.Events.{Event, sample, scan, happened, samplesIn, ScansBelow, toldAt, rowsAfter, scanAt, stepsFor}
 use Rattle.demands.proofs.Writes.{AtSample, Writes}
 use Rattle.demands.proofs.Accepted.{Fits}
-use Rattle.demands.proofs.Chips.{sample-body, sample-keypad, scan-body, scan-keypad, scan-held, any-lines}
+use Rattle.demands.proofs.Chips.{sample-body, sample-keypad, scan-body, scan-keypad, scan-held}
 
 -- a chain of so many records, valid, the keypad on at most at the end
 pub record Standing (n places : ℕ) (ch : Chain) : Type 0 where
   pub size : length (ch .chips) ≡ places
-  pub lines : LinesOnly (ch .chips)
   pub valid : T (validChain n ch)
   pub keypad : KeypadLast n (ch .chips)
 
@@ -74,13 +73,12 @@ module _ (n places : ℕ) (fits : n ≤ places) where
         standing =
             record {
               size = row-length n (ch .levels) s (din s) (ch .chips) ∙ st .size;
-              lines = any-lines (steppedChain n s ch .chips);
               valid =
                   and-both (allValid n (steppedChain n s ch .chips)) (leb s 7)
                   (row-valid n (ch .levels) s (din s) (ch .chips) (and-left (allValid n (ch .chips)) (leb (ch .levels) 7) (st .valid)))
                   (le→leb s 7 (g .writes .0));
               keypad =
-                  sample-keypad n s ch (enough ch st) (st .lines) (loadRises (ch .levels) s) rows refl (g .fit) (at-chips s ch rows ss g) (st .keypad);
+                  sample-keypad n s ch (enough ch st) (loadRises (ch .levels) s) rows refl (g .fit) (at-chips s ch rows ss g) (st .keypad);
             };
         fit = fit-after n (loadRises (ch .levels) s) rows (g .fit);
         writes =
@@ -96,7 +94,6 @@ module _ (n places : ℕ) (fits : n ≤ places) where
         standing =
             record {
               size = length-set (ch .chips) j (scanned bytes (chipAt j ch)) ∙ st .size;
-              lines = any-lines (withChip j (scanned bytes (chipAt j ch)) ch .chips);
               valid = scan-valid n j bytes ch (st .valid);
               keypad = scan-keypad n j bytes ch (st .keypad);
             };
@@ -138,7 +135,7 @@ module _ (n places : ℕ) (fits : n ≤ places) where
       let next = steppedChain n s ch in
       let left = rowsAfter (loadRises (ch .levels) s) rows in
       one-more (toldAt k (loadRises (ch .levels) s) rows) (stepsFor k s left es) (chipAt k ch) (chipAt k next) (chipAt k (happened n es next))
-      (sample-body n s ch (enough n places fits ch (g .standing)) (g .standing .lines) (loadRises (ch .levels) s) rows refl (g .fit)
+      (sample-body n s ch (enough n places fits ch (g .standing)) (loadRises (ch .levels) s) rows refl (g .fit)
       (at-chips n places fits s ch rows (samplesIn es ++ rest) g) k h)
       (as-told es rest next left (going-sample n places fits s ch rows (samplesIn es ++ rest) g) below k h)
   as-told (scan j bytes ∷ es) rest ch rows g below k h =

@@ -22,3 +22,4 @@ pub mod ExactText
 pub mod TextOutput
 pub mod Readings
 pub mod Named
+pub mod Unchanged

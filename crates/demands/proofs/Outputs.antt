@@ -13,14 +13,13 @@ use native.Mathlib.Omega.{arith}
 use borrow.Author.Tests.{ne-eqb, leb-true}
 use lib.Dec.{eqb, leb, ltb}
 use lib.ListN.{length, take}
+use Rattle.base.specs.Bits.{cut}
 use Rattle.base.specs.Pick.{pick}
 use Rattle.base.specs.Refusals.{Told, done, refused}
 use Rattle.base.proofs.Picks.{pick-no, pick-cases}
 use Rattle.chip.specs.declared.Chip.{Chip}
-use Rattle.chip.specs.declared.Recorded.{Recorded}
-use Rattle.chip.specs.declared.Recorded.the-variants.{Nothing, Key}
 use Rattle.chip.specs.Edges.{loadRises}
-use Rattle.chip.specs.Scans.{scanned, recorded}
+use Rattle.chip.specs.Scans.{Recording, nothing, keyCode, scanned, recorded}
 use Rattle.chip.specs.Segments.{litOf}
 use Rattle.chain.specs.declared.Chain.{Chain}
 use Rattle.chain.specs.Chain.{steppedChain, played}
@@ -95,7 +94,7 @@ plain-screen k c = plain-line 0x30 (k ∷ litOf c) refl
 
 plain-rise : (what : Report) (k : ℕ) (c : Chip) → Plain (riseLine what k c)
 unfolding digitOf
-plain-rise Words k c = plain-line 0x10 (k ∷ (c .line .register / 256) ∷ (c .line .register % 256) ∷ []) refl
+plain-rise Words k c = plain-line 0x10 (k ∷ cut (c .line .register) 8 8 ∷ cut (c .line .register) 0 8 ∷ []) refl
 plain-rise Screen k c = plain-screen k c
 
 plain-chips : (what : Report) (k : ℕ) (cs : List Chip) → Plain (riseLines what k cs)
@@ -112,10 +111,10 @@ plain-rises what n (s ∷ ss) ch =
     (pick-cases Plain (loadRises (ch .levels) s) (λ e. plain-chips what 0 (take n (next .chips))) (λ e. plain-none))
     (plain-rises what n ss next)
 
-plain-key : (k : ℕ) (r : Recorded) → Plain (keyLine k r)
+plain-key : (k : ℕ) (r : Recording) → Plain (keyLine k r)
 unfolding digitOf
-plain-key k Nothing = plain-none
-plain-key k (Key code) = plain-line 0x11 (k ∷ code ∷ []) refl
+plain-key k nothing = plain-none
+plain-key k (keyCode code) = plain-line 0x11 (k ∷ code ∷ []) refl
 
 pub plain-scan : (what : Report) (k : ℕ) (bytes : List ℕ) (c : Chip) → Plain (atScan what k bytes c)
 plain-scan Words k bytes c = plain-key k (recorded bytes c)

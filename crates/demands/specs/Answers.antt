@@ -2,7 +2,7 @@
 -- how many codes the till gets; with several chips in a row, that each took its own commands, each one time.
 -- Assumes nothing.
 use mathlib.Core.Path.{_≡_}
-use mathlib.Core.Bool.{true, false}
+use mathlib.Core.Bool.{false}
 use mathlib.Core.List.{List, [], _∷_, _++_, map}
 use Prim.Native.Nat.{ℕ, _≤_, _<_}
 use lib.Dec.{eqb}
@@ -13,17 +13,15 @@ use Rattle.word.specs.declared.Command.{Command}
 use Rattle.word.specs.declared.Command.the-variants.{NoOperation}
 use Rattle.word.specs.Words.{decodedOf}
 use Rattle.chip.specs.declared.Chip.{Chip}
-use Rattle.chip.specs.declared.Recorded.{Recorded}
 use Rattle.chip.specs.Record.{none, bodyOf}
 use Rattle.chip.specs.Edges.{loadRises}
-use Rattle.chip.specs.Scans.{scanned, recorded, codeOf}
+use Rattle.chip.specs.Scans.{Recording, scanned, recorded, codeOf}
 use Rattle.chip.specs.Segments.{litOf}
 use Rattle.chip.specs.History.{Step, told, after, countOf, NoReset, OneKey, Undisturbed, BrokenPress}
 use Rattle.chip.specs.History as History
 use Rattle.chain.specs.declared.Chain.{Chain}
 use Rattle.chain.specs.Chain.{most, steppedChain}
 use Rattle.chain.specs.Entries.{chipAt, withChip}
-use Rattle.chain.specs.Shift.{LinesOnly}
 use Rattle.writer.specs.Rows.{rowsOf, written}
 use Rattle.demands.specs.Events.{Event, sample, scan, happened, samplesIn, ScansBelow, wordFor, scanAt, stepsFor, commandsIn}
 use Rattle.demands.specs.Demand3.{Asked}
@@ -34,7 +32,6 @@ use Rattle.demands.specs.Demand3.{Asked}
 abbrev pub OnlyLoadRises : Type 0
 OnlyLoadRises =
     (n s : ℕ) (ch : Chain)
-    → LinesOnly (ch .chips)
     → loadRises (ch .levels) s ≡ false
     → (map bodyOf (steppedChain n s ch .chips) ≡ map bodyOf (ch .chips)) × (map litOf (steppedChain n s ch .chips) ≡ map litOf (ch .chips))
 
@@ -63,7 +60,7 @@ historyOf k n (sample s ∷ es) ch =
 historyOf k n (scan j bytes ∷ es) ch = scanAt k j bytes ++ historyOf k n es (withChip j (scanned bytes (chipAt j ch)) ch)
 
 -- what the scans of chip k recorded, in order: the codes that the till gets
-abbrev pub recordsIn : ℕ → ℕ → List Event → Chain → List Recorded
+abbrev pub recordsIn : ℕ → ℕ → List Event → Chain → List Recording
 recordsIn k n [] ch = []
 recordsIn k n (sample s ∷ es) ch = recordsIn k n es (steppedChain n s ch)
 recordsIn k n (scan j bytes ∷ es) ch =

@@ -19,7 +19,7 @@ use Rattle.chip.specs.Edges.{dclk, load, loadRises}
 use Rattle.chip.specs.History.{after}
 use Rattle.chain.specs.declared.Chain.{Chain}
 use Rattle.chain.specs.Chain.{most, chipCount, validChain}
-use Rattle.chain.specs.Shift.{KeypadLast, LinesOnly}
+use Rattle.chain.specs.Shift.{KeypadLast}
 use Rattle.chain.specs.Entries.{chipAt}
 use Rattle.writer.specs.Rows.{rowsOf, written, listTest}
 use Rattle.demands.specs.Events.{Event, sample, happened, samplesIn, ScansBelow, wordFor, stepsFor, commandsIn}
@@ -31,8 +31,6 @@ pub record AskedChain (n : ℕ) (ch : Chain) : Type 0 where
   pub places : length (ch .chips) ≡ most
   -- in any valid state
   pub valid : T (validChain n ch)
-  -- no clock edge changes anything but line parts: true of every CH452
-  pub lines : LinesOnly (ch .chips)
   -- DCLK and LOAD high
   pub dclkHigh : dclk (ch .levels) ≡ true
   pub loadHigh : load (ch .levels) ≡ true
@@ -72,7 +70,6 @@ OwnWords =
 abbrev pub NoOtherSample : Type 0
 NoOtherSample =
     (n : ℕ) (ch : Chain) (es : List Event) (s : ℕ)
-    → LinesOnly (happened n es ch .chips)
     → loadRises (happened n es ch .levels) s ≡ false
     → (k : ℕ)
     → bodyOf (chipAt k (happened n (es ++ sample s ∷ []) ch)) ≡ bodyOf (chipAt k (happened n es ch))

@@ -7,3 +7,4 @@ pub mod Exact
 pub mod Refusals
 pub mod Tables
 pub mod Texts
+pub mod Unchanged

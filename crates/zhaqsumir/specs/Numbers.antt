@@ -9,9 +9,7 @@ use Rattle.base.specs.Lent.{laid}
 use Rattle.base.specs.Refusals.{Told, done, refused}
 use Rattle.word.specs.declared.Command.{Command}
 use Rattle.word.specs.Words.{decodedOf, encodedOf}
-use Rattle.chain.specs.declared.finder.Rise.{Rise}
-use Rattle.chain.specs.declared.finder.Rise.the-variants.{At, Nothing}
-use Rattle.chain.specs.Finder.{foundOf}
+use Rattle.chain.specs.Finder.{NextRise, riseAt, noRise, foundOf}
 use Rattle.writer.specs.Rows.{written}
 use Rattle.writer.specs.Written.{answerOf, bytesBy}
 use Rattle.capture.specs.declared.Report.the-variants.{Words}
@@ -69,16 +67,16 @@ pub record WritesNumbers (n : ℕ) (words out : List ℕ) (answer out′ : List 
 -- ---- find: number, place, 1 where there is a rise, its place, how many samples were passed
 
 -- 1 where there is a rise
-abbrev pub isRise : Rise → ℕ
-isRise (At place) = 1
-isRise Nothing = 0
+abbrev pub isRise : NextRise → ℕ
+isRise (riseAt place) = 1
+isRise noRise = 0
 
 -- its place, or 0
-abbrev pub risePlace : Rise → ℕ
-risePlace (At place) = place
-risePlace Nothing = 0
+abbrev pub risePlace : NextRise → ℕ
+risePlace (riseAt place) = place
+risePlace noRise = 0
 
-abbrev pub findBy : Told (Unit {0}) → Rise → ℕ → List ℕ
+abbrev pub findBy : Told (Unit {0}) → NextRise → ℕ → List ℕ
 findBy t rise passed = numberIn t ∷ placeIn t ∷ isRise rise ∷ risePlace rise ∷ passed ∷ []
 
 -- what `zhaqsumir_find` answers

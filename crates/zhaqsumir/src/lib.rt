@@ -15,6 +15,7 @@ use word::Encoded;
 use writer::Written;
 ghost use mathlib.Core.Path.{_≡_};
 ghost use Rattle.base.specs.Refusals.{numberOf, placeOf, verdictTells};
+ghost use Rattle.chain.specs.Finder.{nextRiseOf};
 ghost use Rattle.word.specs.Answers.{decodedTells, encodedTells};
 ghost use Rattle.writer.specs.Written.{writtenTells};
 ghost use Rattle.zhaqsumir.specs.Commands.{givenTells};
@@ -122,7 +123,7 @@ fn written(answer: Written) -> [u64; 3]
 
 // 1 where there is a rise.
 fn is_rise(rise: Rise) -> u64
-    ensures { λ r. ⌜ r ≡ N.isRise rise ⌝ }
+    ensures { λ r. ⌜ r ≡ N.isRise (nextRiseOf rise) ⌝ }
 {
     match rise {
         Rise::At(_) => 1,
@@ -132,7 +133,7 @@ fn is_rise(rise: Rise) -> u64
 
 // The place of a rise, or 0.
 fn rise_place(rise: Rise) -> u64
-    ensures { λ r. ⌜ r ≡ N.risePlace rise ⌝ }
+    ensures { λ r. ⌜ r ≡ N.risePlace (nextRiseOf rise) ⌝ }
 {
     match rise {
         Rise::At(at) => at as u64,
@@ -142,7 +143,7 @@ fn rise_place(rise: Rise) -> u64
 
 // The next rise.
 fn found(f: Found) -> [u64; 5]
-    ensures { λ r. ⌜ r ≡ N.findBy (verdictTells (f .answer)) (f .rise) (f .passed) ⌝ }
+    ensures { λ r. ⌜ r ≡ N.findBy (verdictTells (f .answer)) (nextRiseOf (f .rise)) (f .passed) ⌝ }
 {
     let answer = f.answer;
     let rise = f.rise;

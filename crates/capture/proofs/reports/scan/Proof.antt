@@ -11,14 +11,14 @@ use Rattle.capture.proofs.reports.scan.Tie as tie
 key-line-requires : tie.Need-key-line-requires
 key-line-requires c κs =
     let a = c .before .before .before .before .before .before .args in
-    omega (arith, ap length (scan-words (a .k) (a .bytes) (a .before) (c .before .before .before .before .scanned .ensures) (c .before .enum-told .given .1)))
+    omega (arith, ap length (scan-words (a .k) (a .bytes) (a .before) (c .before .before .before .before .scanned .result) (c .before .before .before .before .scanned .ensures) (c .before .enum-told .given .1)))
 
 returns : tie.Need-returns
 returns c =
     let a = c .before .before .before .before .before .before .before .before .before .args in
     puts-as
     (scan-same (a .k) (a .bytes) (a .before)
-    (c .before .before .before .before .before .before .before .scanned .ensures)
+    (c .before .before .before .before .before .before .before .scanned .result) (c .before .before .before .before .before .before .before .scanned .ensures)
     (c .before .before .before .before .enum-told2 .given .1)
     (c .before .before .before .lit .ensures)
     (c .before .before .lit2 .ensures)
@@ -31,7 +31,7 @@ screen-line-requires c κs =
     let a = c .before .before .before .before .before .before .before .before .before .before .args in
     let e =
     scan-other (a .k) (a .bytes) (a .before)
-    (c .before .before .before .before .before .before .before .before .scanned .ensures)
+    (c .before .before .before .before .before .before .before .before .scanned .result) (c .before .before .before .before .before .before .before .before .scanned .ensures)
     (c .before .before .before .before .before .enum-told2 .given .1)
     (c .before .before .before .before .lit .ensures)
     (c .before .before .before .lit2 .ensures)
@@ -43,7 +43,7 @@ returns-2 : tie.Need-returns-2
 returns-2 c =
     let a = c .before .before .before .before .before .before .before .before .before .args in
     puts-as
-    (scan-words (a .k) (a .bytes) (a .before) (c .before .before .before .before .before .before .before .scanned .ensures) (c .before .before .before .before .enum-told .given .1))
+    (scan-words (a .k) (a .bytes) (a .before) (c .before .before .before .before .before .before .before .scanned .result) (c .before .before .before .before .before .before .before .scanned .ensures) (c .before .before .before .before .enum-told .given .1))
     (c .before .before .key-line .ensures)
 
 returns-3 : tie.Need-returns-3
@@ -51,7 +51,7 @@ returns-3 c =
     let a = c .before .before .before .before .before .before .before .before .before .before .before .before .before .args in
     puts-as
     (scan-other (a .k) (a .bytes) (a .before)
-    (c .before .before .before .before .before .before .before .before .before .before .before .scanned .ensures)
+    (c .before .before .before .before .before .before .before .before .before .before .before .scanned .result) (c .before .before .before .before .before .before .before .before .before .before .before .scanned .ensures)
     (c .before .before .before .before .before .before .before .before .enum-told2 .given .1)
     (c .before .before .before .before .before .before .before .lit .ensures)
     (c .before .before .before .before .before .before .lit2 .ensures)

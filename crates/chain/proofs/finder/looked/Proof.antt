@@ -1,12 +1,11 @@
 -- `chain::finder::looked` meets its contract. The invariant: the next LOAD rise of the rest is that of the whole.
 -- Assumes nothing.
 use mathlib.Core.Path.{_≡_, refl, ap, sym, _∙_}
-use Prim.Native.Nat.{ℕ, _-_, _≤_}
+use Prim.Native.Nat.{_-_, _≤_}
 use native.Mathlib.Omega.{arith}
 use lib.ListN.{length, drop}
 use Rattle.base.proofs.Picks.{pick-yes, pick-no}
-use Rattle.chain.specs.declared.finder.Rise.{Rise}
-use Rattle.chain.specs.Finder.{riseFrom, passedBy}
+use Rattle.chain.specs.Finder.{NextRise, riseFrom, passedBy}
 use Rattle.chain.proofs.Rest.{rise-more, rise-over}
 use borrow.Author.Needs.{needs}
 use Rattle.chain.proofs.finder.looked.Statement.{statement}
@@ -37,7 +36,7 @@ returns c =
     let ss = a .samples .now in
     let e = sym (rise-over ss (l .passed) (l .was) (c .if1 .taken)) ∙ l .inv .1 in
     let all : l .passed ≡ length ss = omega arith in
-    λ i. record { rise = e i; passed = (all ∙ ap (λ (r : Rise). passedBy r (length ss)) e) i }
+    λ i. record { rise = e i; passed = (all ∙ ap (λ (r : NextRise). passedBy r (length ss)) e) i }
 
 returns-2 : tie.Need-returns-2 Inv-loop μ-loop
 returns-2 c =
@@ -47,7 +46,7 @@ returns-2 c =
     let e =
     sym (rise-more ss (l .passed) (l .was) (c .before .before .before .if1 .left) ∙ pick-yes _ _ (sym (c .before .load-rises .ensures) ∙ c .if2 .taken))
     ∙ l .inv .1 in
-    λ i. record { rise = e i; passed = ap (λ (r : Rise). passedBy r (length ss)) e i }
+    λ i. record { rise = e i; passed = ap (λ (r : NextRise). passedBy r (length ss)) e i }
 
 pub looked-spec : {M : Type 1} → statement M
 looked-spec =

@@ -4,8 +4,7 @@ use mathlib.Core.Path.{ap, sym, _∙_}
 use borrow.Author.Tests.{le-leb, lt-leb}
 use Rattle.base.specs.Refusals.{Told, done, verdictTells}
 use Rattle.base.proofs.Picks.{pick-yes, pick-no}
-use Rattle.chain.specs.declared.finder.Way.{Way}
-use Rattle.chain.specs.Finder.{reported, lookedOf}
+use Rattle.chain.specs.Finder.{Report, reported, lookedOf}
 use borrow.Author.Needs.{needs}
 use Rattle.chain.proofs.finder.next_rise.Statement.{statement}
 use Rattle.chain.proofs.finder.next_rise.Tie as tie
@@ -24,7 +23,7 @@ returns-2 c =
 returns-3 : tie.Need-returns-3
 unfolding Rattle.chain.specs.Finder.foundOf
 returns-3 c =
-    ap (λ (w : Way). record { state = w; told = done tt }) (c .looked .ensures)
+    ap (λ (w : Report). record { state = w; told = done tt }) (c .looked .ensures)
     ∙ sym
     (pick-yes _ _ (le-leb _ _ (c .before .before .before .before .if1 .left))
     ∙ ap (λ (t : Told (Unit {0})). reported t (lookedOf (c .before .before .before .before .before .before .args .levels) (c .before .before .before .before .before .before .args .samples .now))) (sym (c .before .before .before .checked .ensures) ∙ ap verdictTells (c .before .enum-told .given .1)))

@@ -5,9 +5,7 @@ use borrow.Author.Tests.{lt-ltb, le-ltb}
 use Rattle.base.specs.Refusals.{done}
 use Rattle.base.proofs.Picks.{pick-yes, pick-no}
 use Rattle.chip.specs.declared.Chip.{Chip}
-use Rattle.chip.specs.declared.Recorded.{Recorded}
-use Rattle.chip.specs.declared.scans.Taken.{Taken}
-use Rattle.chip.specs.Scans.{scanned, recorded}
+use Rattle.chip.specs.Scans.{Recording, Took, scanned, recorded}
 use Rattle.chain.specs.declared.Chain.{Chain}
 use Rattle.chain.specs.Entries as E
 use Rattle.chain.proofs.Tested.{by-done, by-refusal}
@@ -28,9 +26,9 @@ unfolding E.scannedOf
 returns-3 c =
     let a = c .before .before .before .before .before .before .before .before .args in
     let at = c .before .before .before .chip-at .ensures in
-    ap₂ (λ (ch : Chain) (what : Recorded). record { state = ch; told = done what })
-    (c .with-chip .ensures ∙ ap (λ (d : Chip). E.withChip (a .k) d (a .chain)) (ap (λ (t : Taken). t .chip) (c .before .before .scanned .ensures) ∙ ap (λ (d : Chip). scanned (a .bytes) d) at))
-    (ap (λ (t : Taken). t .recorded) (c .before .before .scanned .ensures) ∙ ap (λ (d : Chip). recorded (a .bytes) d) at)
+    ap₂ (λ (ch : Chain) (what : Recording). record { state = ch; told = done what })
+    (c .with-chip .ensures ∙ ap (λ (d : Chip). E.withChip (a .k) d (a .chain)) (ap (λ (t : Took). t .chip) (c .before .before .scanned .ensures) ∙ ap (λ (d : Chip). scanned (a .bytes) d) at))
+    (ap (λ (t : Took). t .recorded) (c .before .before .scanned .ensures) ∙ ap (λ (d : Chip). recorded (a .bytes) d) at)
     ∙ sym (by-done _ _ (c .before .before .before .before .before .before .before .tested .ensures) (c .before .before .before .before .before .enum-told .given .1) ∙ pick-yes _ _ (lt-ltb _ _ (c .before .before .before .before .if1 .left)))
 
 pub scan-spec : {M : Type 1} → statement M
