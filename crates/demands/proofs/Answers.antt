@@ -24,7 +24,7 @@ use Rattle.chip.specs.Commands.{applied, appliedWord, obey}
 use Rattle.chip.specs.Edges.{loadRises, din}
 use Rattle.chip.specs.Scans.{result, wakes, scannedBy, scanned, recorded, codeOf}
 use Rattle.chip.specs.Segments.{litOf}
-use Rattle.chip.specs.History.{Step, recordsOf, countOf, times}
+use Rattle.chip.specs.History.{recordsOf, countOf, times}
 use Rattle.chip.specs.History as History
 use Rattle.chip.proofs.Quiet.{body-word, body-scanned, recorded-body}
 use Rattle.chip.proofs.Once.{once, once-broken}
@@ -33,12 +33,12 @@ use Rattle.chain.specs.Chain.{most, steppedChain}
 use Rattle.chain.specs.Entries.{chipAt, withChip}
 use Rattle.chain.proofs.Laws.{quiet-chain, one-alone}
 use Rattle.chain.proofs.Rest.{row-length}
-use Rattle.demands.specs.Events.{Event, sample, scan, samplesIn, wordFor, toldAt, rowsAfter, stepsFor, commandOf}
-use Rattle.demands.specs.Answers.{OnlyLoadRises, ScansChangeNoDigit, ScansChangeOneChip, OneCode, OneCodeBroken, EachTookItsOwn, obeyed, historyOf, recordsIn, scansIn, scansOf}
+use Rattle.demands.specs.Events.{Event, sample, scan, samplesIn}
+use Rattle.demands.specs.Answers.{OnlyLoadRises, ScansChangeNoDigit, ScansChangeOneChip, OneCode, OneCodeBroken, EachTookItsOwn, obeyed, historyOf, recordsIn}
 use Rattle.writer.specs.Rows.{rowsOf}
 use Rattle.demands.proofs.Chips.{part-at, obeys-at}
 use Rattle.demands.proofs.Demand3.{demand-3}
-use Rattle.demands.proofs.Corollaries.{own-words}
+use Rattle.demands.proofs.Corollaries.{own-words, scans-own}
 
 -- ---- 1
 
@@ -143,26 +143,6 @@ answer-2-broken n k a ch h m size small es undisturbed press =
     subst (λ t. t ≤ 1) (sym (times-same n k h m a ch size es)) (once-broken a small (historyOf k n es ch) undisturbed press (chipAt k ch))
 
 -- ---- 3
-
-scans-own : (k was : ℕ) (rows : List (List ℕ)) (es : List Event) → scansIn (stepsFor k was rows es) ≡ scansOf k es
-scans-own k was rows [] = refl
-scans-own k was rows (sample s ∷ es) =
-    no-scans (loadRises was s) rows (stepsFor k s (rowsAfter (loadRises was s) rows) es) ∙ scans-own k s (rowsAfter (loadRises was s) rows) es
-  where
-    told-none : (o : Told Command) (steps : List Step) → scansIn (commandOf o ++ steps) ≡ scansIn steps
-    told-none (done command) steps = refl
-    told-none (refused number place) steps = refl
-
-    no-scans : (b : Bool) (rows : List (List ℕ)) (steps : List Step) → scansIn (toldAt k b rows ++ steps) ≡ scansIn steps
-    no-scans false rows steps = refl
-    no-scans true [] steps = refl
-    no-scans true (row ∷ rows) steps = told-none (decodedOf (wordFor k row)) steps
-scans-own k was rows (scan j bytes ∷ es) =
-    one (eqb j k) (stepsFor k was rows es) ∙ ap (λ r. pick (eqb j k) (bytes ∷ []) [] ++ r) (scans-own k was rows es)
-  where
-    one : (b : Bool) (steps : List Step) → scansIn (pick b (History.scan bytes ∷ []) [] ++ steps) ≡ pick b (bytes ∷ []) [] ++ scansIn steps
-    one true steps = refl
-    one false steps = refl
 
 pub answer-3 : EachTookItsOwn
 answer-3 n ch ws asked es below whole k h =

@@ -1,5 +1,6 @@
 -- What follows from demand 3, and from what its proof carries along.
 --     own-words           a whole play tells chip k the commands of its words of the rows, each once and in row order, whatever scans fall between
+--     scans-own           and the scans that name it, in order
 --     happened-append     events in two parts
 --     no-other-sample     after any events a sample without a LOAD rise changes no chip's settings, display and key record
 --     in-between          after any beginning of a play the chain is valid still, the keypad off before the last chip
@@ -10,6 +11,7 @@ use mathlib.Core.Bool.{Bool, true, false}
 use mathlib.Core.List.{List, [], _∷_, _++_, map, append-nil}
 use Prim.Native.Nat.{ℕ, _≤_, _<_}
 use lib.Dec.{eqb}
+use Rattle.base.specs.Pick.{pick}
 use Rattle.base.specs.Refusals.{Told, done, refused}
 use Rattle.base.proofs.Picks.{pick-cases}
 use Rattle.word.specs.Words.{decodedOf}
@@ -18,6 +20,7 @@ use Rattle.chip.specs.Record.{bodyOf, resetChip}
 use Rattle.chip.specs.Edges.{loadRises}
 use Rattle.chip.specs.Scans.{scanned}
 use Rattle.chip.specs.History.{Step}
+use Rattle.chip.specs.History as History
 use Rattle.chain.specs.declared.Chain.{Chain}
 use Rattle.chain.specs.Chain.{most, steppedChain}
 use Rattle.chain.specs.Shift.{Held}
@@ -25,7 +28,7 @@ use Rattle.chain.specs.Entries.{chipAt, withChip}
 use Rattle.chain.proofs.Laws.{quiet-chain}
 use Rattle.writer.specs.Rows.{rowsOf, written}
 use Rattle.demands.specs.Events.{Event, sample, scan, happens, happened, samplesIn, commandOf, wordFor, toldAt, rowsAfter, scanAt, stepsFor, commandsIn}
-use Rattle.demands.specs.Demand3.{Asked, OwnWords, NoOtherSample, PremisesAgain}
+use Rattle.demands.specs.Demand3.{Asked, OwnWords, NoOtherSample, PremisesAgain, scansIn, scansOf}
 use Rattle.demands.proofs.Writes.{AtSample}
 use Rattle.demands.proofs.Accepted.{Fit, Fits}
 use Rattle.demands.proofs.Chips.{part-at}
@@ -77,6 +80,28 @@ told-all n places fits (scan j bytes ∷ es) ch rows g k h =
 pub own-words : OwnWords
 own-words n ch ws asked es whole =
     told-all n most (room n ch ws asked) es ch (rowsOf n ws) (begins n ch ws asked (samplesIn es) whole)
+
+-- ---- its own scans
+
+pub scans-own : (k was : ℕ) (rows : List (List ℕ)) (es : List Event) → scansIn (stepsFor k was rows es) ≡ scansOf k es
+scans-own k was rows [] = refl
+scans-own k was rows (sample s ∷ es) =
+    no-scans (loadRises was s) rows (stepsFor k s (rowsAfter (loadRises was s) rows) es) ∙ scans-own k s (rowsAfter (loadRises was s) rows) es
+  where
+    told-none : (o : Told Command) (steps : List Step) → scansIn (commandOf o ++ steps) ≡ scansIn steps
+    told-none (done command) steps = refl
+    told-none (refused number place) steps = refl
+
+    no-scans : (b : Bool) (rows : List (List ℕ)) (steps : List Step) → scansIn (toldAt k b rows ++ steps) ≡ scansIn steps
+    no-scans false rows steps = refl
+    no-scans true [] steps = refl
+    no-scans true (row ∷ rows) steps = told-none (decodedOf (wordFor k row)) steps
+scans-own k was rows (scan j bytes ∷ es) =
+    one (eqb j k) (stepsFor k was rows es) ∙ ap (λ r. pick (eqb j k) (bytes ∷ []) [] ++ r) (scans-own k was rows es)
+  where
+    one : (b : Bool) (steps : List Step) → scansIn (pick b (History.scan bytes ∷ []) [] ++ steps) ≡ pick b (bytes ∷ []) [] ++ scansIn steps
+    one true steps = refl
+    one false steps = refl
 
 -- ---- at no other sample
 

@@ -23,3 +23,6 @@ pub mod TextOutput
 pub mod Readings
 pub mod Named
 pub mod Unchanged
+pub mod RisePlaces
+pub mod Direct
+pub mod Whole

@@ -66,14 +66,14 @@ unmoved was now d (h ∷ hs) f r = ap₂ _∷_ (pick-no _ _ f ∙ pick-no _ _ r)
 -- ---- bits
 
 -- a bit's two samples: DCLK low and DCLK high, LOAD high, and DIN is the bit
-record Wires (b : ℕ) : Type 0 where
-  low : dclk (4 + b) ≡ false
-  high : dclk (6 + b) ≡ true
-  load-low : load (4 + b) ≡ true
-  load-high : load (6 + b) ≡ true
-  bit : digit (din (6 + b)) ≡ b
+pub record Wires (b : ℕ) : Type 0 where
+  pub low : dclk (4 + b) ≡ false
+  pub high : dclk (6 + b) ≡ true
+  pub load-low : load (4 + b) ≡ true
+  pub load-high : load (6 + b) ≡ true
+  pub bit : digit (din (6 + b)) ≡ b
 
-wires : (b : ℕ) → b < 2 → Wires b
+pub wires : (b : ℕ) → b < 2 → Wires b
 wires zero h = record { low = refl; high = refl; load-low = refl; load-high = refl; bit = refl }
 wires (suc zero) h = record { low = refl; high = refl; load-low = refl; load-high = refl; bit = refl }
 wires (suc (suc b)) h = absurd (omega arith)

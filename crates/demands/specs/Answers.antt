@@ -17,14 +17,13 @@ use Rattle.chip.specs.Record.{none, bodyOf}
 use Rattle.chip.specs.Edges.{loadRises}
 use Rattle.chip.specs.Scans.{Recording, scanned, recorded, codeOf}
 use Rattle.chip.specs.Segments.{litOf}
-use Rattle.chip.specs.History.{Step, told, after, countOf, NoReset, OneKey, Undisturbed, BrokenPress}
-use Rattle.chip.specs.History as History
+use Rattle.chip.specs.History.{Step, told, countOf, NoReset, OneKey, Undisturbed, BrokenPress}
 use Rattle.chain.specs.declared.Chain.{Chain}
 use Rattle.chain.specs.Chain.{most, steppedChain}
 use Rattle.chain.specs.Entries.{chipAt, withChip}
 use Rattle.writer.specs.Rows.{rowsOf, written}
-use Rattle.demands.specs.Events.{Event, sample, scan, happened, samplesIn, ScansBelow, wordFor, scanAt, stepsFor, commandsIn}
-use Rattle.demands.specs.Demand3.{Asked}
+use Rattle.demands.specs.Events.{Event, sample, scan, happened, samplesIn, ScansBelow, scanAt, stepsFor}
+use Rattle.demands.specs.Demand3.{Asked, TookItsOwn}
 
 -- ---- 1: which levels on the wires can change the display
 
@@ -87,25 +86,6 @@ OneCodeBroken =
     → countOf (codeOf a) (recordsIn k n es ch) ≤ 1
 
 -- ---- 3: each chip took its own commands, each one time
-
--- the scans of a history, in order
-abbrev pub scansIn : List Step → List (List ℕ)
-scansIn [] = []
-scansIn (told command ∷ h) = scansIn h
-scansIn (History.scan bytes ∷ h) = bytes ∷ scansIn h
-
--- the scans that name chip k, in order
-abbrev pub scansOf : ℕ → List Event → List (List ℕ)
-scansOf k [] = []
-scansOf k (sample s ∷ es) = scansOf k es
-scansOf k (scan j bytes ∷ es) = pick (eqb j k) (bytes ∷ []) [] ++ scansOf k es
-
--- chip k ends as after a history of commands and scans applied to it directly: its commands are those of its own words, each once and
--- in row order, and its scans are its own, in order
-pub record TookItsOwn (n k : ℕ) (ws : List ℕ) (es : List Event) (before end : Chip) (steps : List Step) : Type 0 where
-  pub ends : bodyOf end ≡ bodyOf (after steps before)
-  pub commands : map done (commandsIn steps) ≡ map (λ row. decodedOf (wordFor k row)) (rowsOf n ws)
-  pub scans : scansIn steps ≡ scansOf k es
 
 -- over the whole play of a written list, with any scans between
 abbrev pub EachTookItsOwn : Type 0

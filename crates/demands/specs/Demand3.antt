@@ -10,19 +10,22 @@ use mathlib.Core.Path.{_≡_}
 use mathlib.Core.Bool.{true, false}
 use mathlib.Core.List.{List, [], _∷_, _++_, map}
 use Prim.Native.Nat.{ℕ, _<_}
-use lib.Dec.{T}
+use lib.Dec.{T, eqb}
 use lib.ListN.{length}
+use Rattle.base.specs.Pick.{pick}
 use Rattle.base.specs.Refusals.{done}
 use Rattle.word.specs.Words.{decodedOf}
+use Rattle.chip.specs.declared.Chip.{Chip}
 use Rattle.chip.specs.Record.{bodyOf}
 use Rattle.chip.specs.Edges.{dclk, load, loadRises}
-use Rattle.chip.specs.History.{after}
+use Rattle.chip.specs.History.{Step, told, after}
+use Rattle.chip.specs.History as History
 use Rattle.chain.specs.declared.Chain.{Chain}
 use Rattle.chain.specs.Chain.{most, chipCount, validChain}
 use Rattle.chain.specs.Shift.{KeypadLast}
 use Rattle.chain.specs.Entries.{chipAt}
 use Rattle.writer.specs.Rows.{rowsOf, written, listTest}
-use Rattle.demands.specs.Events.{Event, sample, happened, samplesIn, ScansBelow, wordFor, stepsFor, commandsIn}
+use Rattle.demands.specs.Events.{Event, sample, scan, happened, samplesIn, ScansBelow, wordFor, stepsFor, commandsIn}
 
 -- what is asked of a number of chips and a chain
 pub record AskedChain (n : ℕ) (ch : Chain) : Type 0 where
@@ -65,6 +68,25 @@ OwnWords =
     → samplesIn es ≡ written n ws
     → (k : ℕ) → k < n
     → map done (commandsIn (stepsFor k (ch .levels) (rowsOf n ws) es)) ≡ map (λ row. decodedOf (wordFor k row)) (rowsOf n ws)
+
+-- the scans of a history, in order
+abbrev pub scansIn : List Step → List (List ℕ)
+scansIn [] = []
+scansIn (told command ∷ h) = scansIn h
+scansIn (History.scan bytes ∷ h) = bytes ∷ scansIn h
+
+-- the scans that name chip k, in order
+abbrev pub scansOf : ℕ → List Event → List (List ℕ)
+scansOf k [] = []
+scansOf k (sample s ∷ es) = scansOf k es
+scansOf k (scan j bytes ∷ es) = pick (eqb j k) (bytes ∷ []) [] ++ scansOf k es
+
+-- chip k ends as after a history of commands and scans applied to it directly: its commands are those of its own words, each once and
+-- in row order, and its scans are its own, in order
+pub record TookItsOwn (n k : ℕ) (ws : List ℕ) (es : List Event) (before end : Chip) (steps : List Step) : Type 0 where
+  pub ends : bodyOf end ≡ bodyOf (after steps before)
+  pub commands : map done (commandsIn steps) ≡ map (λ row. decodedOf (wordFor k row)) (rowsOf n ws)
+  pub scans : scansIn steps ≡ scansOf k es
 
 -- after any events, a sample without a LOAD rise changes no chip's settings, display and key record
 abbrev pub NoOtherSample : Type 0

@@ -8,3 +8,5 @@ pub mod Refusals
 pub mod Tables
 pub mod Texts
 pub mod Unchanged
+pub mod Direct
+pub mod Whole

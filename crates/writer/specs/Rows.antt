@@ -1,7 +1,7 @@
 -- Document 01, "The writer and the finder": the samples that rows of words are written as, and the words that are accepted.
 -- Assumes nothing.
 use Prim.Native.Nat.{ℕ, zero, suc, _+_, _-_, _*_, _/_, _%_}
-use mathlib.Core.Bool.{Bool, true, false, not, _&&_}
+use mathlib.Core.Bool.{Bool, false, not, _&&_}
 use mathlib.Core.List.{List, [], _∷_, _++_}
 use lib.Dec.{eqb, leb}
 use lib.ListN.{length, take, drop}
@@ -15,13 +15,13 @@ use Rattle.chain.specs.Shift.{rowBits, clocking}
 
 -- ---- rows
 
--- so many rows of n words, chip 0 first in each row
-unfoldable pub cutRows : ℕ → ℕ → List ℕ → List (List ℕ)
+-- so many rows of n words, or of n commands, chip 0 first in each row
+unfoldable pub cutRows {ℓ} : {A : Type ℓ} → ℕ → ℕ → List A → List (List A)
 cutRows zero n ws = []
 cutRows (suc count) n ws = take n ws ∷ cutRows count n (drop n ws)
 
 -- the rows of a list
-abbrev pub rowsOf : ℕ → List ℕ → List (List ℕ)
+abbrev pub rowsOf {ℓ} : {A : Type ℓ} → ℕ → List A → List (List A)
 rowsOf n ws = cutRows (length ws / n) n ws
 
 -- a row's samples: a bit b is 4+b then 6+b, last chip first, lowest bit first; the row ends with 3, 7
