@@ -1,6 +1,7 @@
 -- The events of demand 3 and the entries of a chain: what happens is what `play` and `scan` do, and neither is refused.
 --     start-asked      a chain as `start` gives it is as demand 3 asks
 --     going-tested     a chain in the middle of a write passes the tests that come first in every entry
+--     played-happens   playing samples is what they are as events
 --     play-happens     so `play` leaves what its samples as events leave
 --     scan-happens     and `scan` what its scan as an event leaves
 -- Assumes nothing.
@@ -51,7 +52,7 @@ going-tested n ch rows ss count g = tests-pass n ch count (g .standing .valid)
 
 -- ---- the entries
 
-played-happens : (n : ℕ) (ss : List ℕ) (ch : Chain) → played n ss ch ≡ happened n (map sample ss) ch
+pub played-happens : (n : ℕ) (ss : List ℕ) (ch : Chain) → played n ss ch ≡ happened n (map sample ss) ch
 unfolding played
 played-happens n [] ch = refl
 played-happens n (s ∷ ss) ch = played-happens n ss (steppedChain n s ch)

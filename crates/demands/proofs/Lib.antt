@@ -26,3 +26,5 @@ pub mod Unchanged
 pub mod RisePlaces
 pub mod Direct
 pub mod Whole
+pub mod Alone
+pub mod Shown

@@ -19,11 +19,12 @@ use Rattle.chip.specs.Scans.{Recording, scanned, recorded, codeOf}
 use Rattle.chip.specs.Segments.{litOf}
 use Rattle.chip.specs.History.{Step, told, countOf, NoReset, OneKey, Undisturbed, BrokenPress}
 use Rattle.chain.specs.declared.Chain.{Chain}
-use Rattle.chain.specs.Chain.{most, steppedChain}
+use Rattle.chain.specs.Chain.{most, steppedChain, played}
 use Rattle.chain.specs.Entries.{chipAt, withChip}
-use Rattle.writer.specs.Rows.{rowsOf, written}
+use Rattle.chain.specs.Shift.{AllBelow}
+use Rattle.writer.specs.Rows.{rowsOf, written, listTest}
 use Rattle.demands.specs.Events.{Event, sample, scan, happened, samplesIn, ScansBelow, scanAt, stepsFor}
-use Rattle.demands.specs.Demand3.{Asked, TookItsOwn}
+use Rattle.demands.specs.Demand3.{AskedChain, Asked, TookItsOwn}
 
 -- ---- 1: which levels on the wires can change the display
 
@@ -42,6 +43,16 @@ ScansChangeNoDigit =
 
 abbrev pub ScansChangeOneChip : Type 0
 ScansChangeOneChip = (k j : ℕ) (bytes : List ℕ) (ch : Chain) → (j ≡ k → ⊥) → chipAt j (withChip k (scanned bytes (chipAt k ch)) ch) ≡ chipAt j ch
+
+-- and a LOAD rise can: on any chain as demand 3 asks, for any chip and any eight bytes there are rows that the writer accepts and after
+-- whose play that chip lights exactly these
+abbrev pub AnyDisplay : Type 0
+AnyDisplay =
+    (n : ℕ) (ch : Chain)
+    → AskedChain n ch
+    → (k : ℕ) → k < n
+    → (bytes : List ℕ) → length bytes ≡ 8 → AllBelow 256 bytes
+    → (ws : List ℕ) × (listTest n ws ≡ done tt) × (litOf (chipAt k (played n (written n ws) ch)) ≡ bytes)
 
 -- ---- 2: how many codes one press gives
 

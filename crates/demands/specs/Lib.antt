@@ -10,3 +10,4 @@ pub mod Texts
 pub mod Unchanged
 pub mod Direct
 pub mod Whole
+pub mod Alone
