@@ -28,3 +28,5 @@ pub mod Direct
 pub mod Whole
 pub mod Alone
 pub mod Shown
+pub mod Histories
+pub mod Codes

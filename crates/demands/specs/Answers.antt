@@ -2,7 +2,8 @@
 -- how many codes the till gets; with several chips in a row, that each took its own commands, each one time.
 -- Assumes nothing.
 use mathlib.Core.Path.{_≡_}
-use mathlib.Core.Bool.{false}
+use mathlib.Core.Bool.{true, false}
+use mathlib.Core.Logic.{_⊎_}
 use mathlib.Core.List.{List, [], _∷_, _++_, map}
 use Prim.Native.Nat.{ℕ, _≤_, _<_}
 use lib.Dec.{eqb}
@@ -15,15 +16,15 @@ use Rattle.word.specs.Words.{decodedOf}
 use Rattle.chip.specs.declared.Chip.{Chip}
 use Rattle.chip.specs.Record.{none, bodyOf}
 use Rattle.chip.specs.Edges.{loadRises}
-use Rattle.chip.specs.Scans.{Recording, scanned, recorded, codeOf}
+use Rattle.chip.specs.Scans.{Recording, nothing, keyCode, result, scanned, recorded, codeOf}
 use Rattle.chip.specs.Segments.{litOf}
-use Rattle.chip.specs.History.{Step, told, countOf, NoReset, OneKey, Undisturbed, BrokenPress}
+use Rattle.chip.specs.History.{Step, told, NoReset, OneKey, Undisturbed, BrokenPress}
 use Rattle.chain.specs.declared.Chain.{Chain}
 use Rattle.chain.specs.Chain.{most, steppedChain, played}
 use Rattle.chain.specs.Entries.{chipAt, withChip}
 use Rattle.chain.specs.Shift.{AllBelow}
 use Rattle.writer.specs.Rows.{rowsOf, written, listTest}
-use Rattle.demands.specs.Events.{Event, sample, scan, happened, samplesIn, ScansBelow, scanAt, stepsFor}
+use Rattle.demands.specs.Events.{Event, sample, scan, happens, happened, samplesIn, ScansBelow, scanAt, stepsFor}
 use Rattle.demands.specs.Demand3.{AskedChain, Asked, TookItsOwn}
 
 -- ---- 1: which levels on the wires can change the display
@@ -61,40 +62,85 @@ abbrev pub obeyed : Told Command → Command
 obeyed (done command) = command
 obeyed (refused number place) = NoOperation
 
--- what happens to chip k, whatever is played and scanned: the command in its register at each LOAD rise, and its own scans
+-- what one event is for chip k: at a LOAD rise the command that is then in its register, a scan of its own; else nothing
+abbrev pub stepsAt : ℕ → ℕ → Event → Chain → List Step
+stepsAt k n (sample s) ch =
+    pick (loadRises (ch .levels) s) (told (obeyed (decodedOf (chipAt k (steppedChain n s ch) .line .register))) ∷ []) []
+stepsAt k n (scan j bytes) ch = scanAt k j bytes
+
+-- what happens to chip k, whatever is played and scanned
 abbrev pub historyOf : ℕ → ℕ → List Event → Chain → List Step
 historyOf k n [] ch = []
-historyOf k n (sample s ∷ es) ch =
-    pick (loadRises (ch .levels) s) (told (obeyed (decodedOf (chipAt k (steppedChain n s ch) .line .register))) ∷ []) []
-    ++ historyOf k n es (steppedChain n s ch)
-historyOf k n (scan j bytes ∷ es) ch = scanAt k j bytes ++ historyOf k n es (withChip j (scanned bytes (chipAt j ch)) ch)
+historyOf k n (e ∷ es) ch = stepsAt k n e ch ++ historyOf k n es (happens n e ch)
 
--- what the scans of chip k recorded, in order: the codes that the till gets
+-- what one event records on chip k: what a scan of its own does
+abbrev pub recordsAt : ℕ → Event → Chain → List Recording
+recordsAt k (sample s) ch = []
+recordsAt k (scan j bytes) ch = pick (eqb j k) (recorded bytes (chipAt j ch) ∷ []) []
+
+-- what the scans of chip k recorded, in order
 abbrev pub recordsIn : ℕ → ℕ → List Event → Chain → List Recording
 recordsIn k n [] ch = []
-recordsIn k n (sample s ∷ es) ch = recordsIn k n es (steppedChain n s ch)
-recordsIn k n (scan j bytes ∷ es) ch =
-    pick (eqb j k) (recorded bytes (chipAt j ch) ∷ []) [] ++ recordsIn k n es (withChip j (scanned bytes (chipAt j ch)) ch)
+recordsIn k n (e ∷ es) ch = recordsAt k e ch ++ recordsIn k n es (happens n e ch)
 
--- while chip k obeys no reset and its scans keep finding key a, a's code is recorded at most once, whatever else is played and scanned
+-- the codes among them, whatever they are: what the till gets of chip k
+abbrev pub codesIn : List Recording → List ℕ
+codesIn [] = []
+codesIn (nothing ∷ rest) = codesIn rest
+codesIn (keyCode code ∷ rest) = code ∷ codesIn rest
+
+-- of chip k of any chain, whatever is played and whatever other chips are scanned: under premises on its history the till gets such codes
+abbrev Codes : (ℕ → List Step → Type 0) → ((n k a : ℕ) → Chain → List Event → Type 0) → Type 0
+Codes Premise Holds =
+    (n k a : ℕ) (ch : Chain)
+    → k < n → n ≤ most → length (ch .chips) ≡ most → a < none
+    → (es : List Event)
+    → Premise a (historyOf k n es ch)
+    → Holds n k a ch es
+
+-- no code at all, or key a's once
+abbrev pub AtMostOne : (n k a : ℕ) → Chain → List Event → Type 0
+AtMostOne n k a ch es = (codesIn (recordsIn k n es ch) ≡ []) ⊎ (codesIn (recordsIn k n es ch) ≡ codeOf a ∷ [])
+
+-- two scans of chip k in a row, with nothing of that chip between them, find key a on a chip that is awake with KEYB on and doesn't hold
+-- 40H + a already
+pub record TwiceFound (n k a : ℕ) (ch : Chain) (es : List Event) : Type 0 where
+  pub first : List Event
+  pub one : List ℕ
+  pub between : List Event
+  pub two : List ℕ
+  pub rest : List Event
+  pub whole : es ≡ first ++ (scan k one ∷ (between ++ (scan k two ∷ rest)))
+  pub nothingBetween : historyOf k n between (happened n (first ++ (scan k one ∷ [])) ch) ≡ []
+  pub oneFinds : result one ≡ a
+  pub twoFinds : result two ≡ a
+  pub awake : chipAt k (happened n first ch) .settings .sleeping ≡ false
+  pub keypad : chipAt k (happened n first ch) .settings .system .keyb ≡ true
+  pub notHeld : chipAt k (happened n first ch) .keys .code ≡ codeOf a → ⊥
+
+-- then key a's code, once, and no other
+abbrev pub ExactlyOne : (n k a : ℕ) → Chain → List Event → Type 0
+ExactlyOne n k a ch es = TwiceFound n k a ch es → codesIn (recordsIn k n es ch) ≡ codeOf a ∷ []
+
+-- chip k obeys no reset, and its scans keep finding key a
+abbrev pub KeptDown : ℕ → List Step → Type 0
+KeptDown a h = NoReset h × OneKey a h
+
+-- or single empty scans break the press, while nothing but scans sets the last scan
+abbrev pub Bounced : ℕ → List Step → Type 0
+Bounced a h = Undisturbed h × BrokenPress a h
+
 abbrev pub OneCode : Type 0
-OneCode =
-    (n k a : ℕ) (ch : Chain)
-    → k < n → n ≤ most → length (ch .chips) ≡ most → a < none
-    → (es : List Event)
-    → NoReset (historyOf k n es ch)
-    → OneKey a (historyOf k n es ch)
-    → countOf (codeOf a) (recordsIn k n es ch) ≤ 1
+OneCode = Codes KeptDown AtMostOne
 
--- and also where single empty scans break the press, while nothing but scans sets the last scan
+abbrev pub OneCodeExactly : Type 0
+OneCodeExactly = Codes KeptDown ExactlyOne
+
 abbrev pub OneCodeBroken : Type 0
-OneCodeBroken =
-    (n k a : ℕ) (ch : Chain)
-    → k < n → n ≤ most → length (ch .chips) ≡ most → a < none
-    → (es : List Event)
-    → Undisturbed (historyOf k n es ch)
-    → BrokenPress a (historyOf k n es ch)
-    → countOf (codeOf a) (recordsIn k n es ch) ≤ 1
+OneCodeBroken = Codes Bounced AtMostOne
+
+abbrev pub OneCodeBrokenExactly : Type 0
+OneCodeBrokenExactly = Codes Bounced ExactlyOne
 
 -- ---- 3: each chip took its own commands, each one time
 
