@@ -1,13 +1,16 @@
--- Any two results that a contract allows coincide: the two forms that contracts have, and this crate's entries.
+-- The contracts of this crate's functions allow one outcome each (`AllowsOne` of specs/Unique), and the forms that contracts have.
+--     same-answer      a contract `r ≡ x`
+--     same-telling     a contract `tells r ≡ x`, where what is told gives the answer back
+--     same-verdict     two verdicts that tell the same are the same
 -- Assumes nothing.
 use mathlib.Core.Path.{_≡_, refl, ap, sym, _∙_}
-use mathlib.Core.Bool.{Bool}
-use Prim.Native.Nat.{ℕ}
-use Rattle.base.specs.Bits.{cut, digit}
 use Rattle.base.specs.Refusals.{Told, done, refused, verdictTells}
+use Rattle.base.specs.Unique.{AllowsOne}
 use Rattle.base.specs.declared.Verdict.{Verdict}
 use Rattle.base.specs.declared.Verdict.the-variants as Verdicts
 use Rattle.base.proofs.Refusals.{refusalOf, refusal-back}
+use Rattle.base.proofs.field
+use Rattle.base.proofs.digit_of
 
 -- a contract `r ≡ x`
 pub same-answer {ℓ} : {A : Type ℓ} {x r s : A} → r ≡ x → s ≡ x → r ≡ s
@@ -31,10 +34,10 @@ verdict-back (Verdicts.Refused e) = ap Verdicts.Refused (refusal-back e)
 pub same-verdict : {v w : Verdict} → verdictTells v ≡ verdictTells w → v ≡ w
 same-verdict {v} {w} e = sym (verdict-back v) ∙ ap verdict e ∙ verdict-back w
 
--- ---- the entries
+-- ---- the functions
 
-pub field-unique : (n at width : ℕ) {r s : ℕ} → r ≡ cut n at width → s ≡ cut n at width → r ≡ s
-field-unique n at width = same-answer
+pub field-unique : AllowsOne field.Kinds.ps field.Kinds.r field.Reads.Learnt
+field-unique κs a x y last last′ p q = (same-answer p q, refl)
 
-pub digit-of-unique : (b : Bool) {r s : ℕ} → r ≡ digit b → s ≡ digit b → r ≡ s
-digit-of-unique b = same-answer
+pub digit-of-unique : AllowsOne digit_of.Kinds.ps digit_of.Kinds.r digit_of.Reads.Learnt
+digit-of-unique κs a x y last last′ p q = (same-answer p q, refl)

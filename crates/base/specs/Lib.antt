@@ -4,3 +4,4 @@ pub mod Below
 pub mod Refusals
 pub mod Claims
 pub mod Lent
+pub mod Unique

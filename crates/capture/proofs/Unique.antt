@@ -1,27 +1,27 @@
--- Any two results that the contracts of `replay` and `screen` allow coincide, the lent array included.
+-- The contracts of `replay` and `screen` allow one outcome each: `AllowsOne` of the base crate, of what each generated contract tells; the
+-- lent array included.
 -- Assumes nothing.
 use mathlib.Core.Path.{_≡_}
 use mathlib.Core.List.{List}
 use Prim.Native.Nat.{ℕ}
+use Rattle.base.specs.Unique.{AllowsOne}
 use Rattle.base.proofs.Unique.{same-answer, same-verdict}
 use Rattle.capture.specs.declared.Replayed.{Replayed}
 use Rattle.capture.specs.declared.Report.{Report}
 use Rattle.capture.specs.declared.Report.the-variants.{Words, Screen}
 use Rattle.capture.specs.Replay.{Replays}
+use Rattle.capture.proofs.replay
+use Rattle.capture.proofs.screen
 
-report-unique : (what : Report) (text out : List ℕ) (r s : Replayed) (out′ out″ : List ℕ)
-    → Replays what text out r out′
-    → Replays what text out s out″
-    → (r ≡ s) × (out′ ≡ out″)
-report-unique what text out r s out′ out″ p q =
+-- two answers to one text
+same-replayed : (what : Report) {text out out′ out″ : List ℕ} {r s : Replayed} → Replays what text out r out′ → Replays what text out s out″ → r ≡ s
+same-replayed what {r = r} {s = s} p q =
     let count = same-answer (p .count) (q .count) in
     let answer = same-verdict {v = r .answer} {w = s .answer} (same-answer (p .answer) (q .answer)) in
-    ((λ i. record { bytes = count i; answer = answer i }), same-answer (p .bytes) (q .bytes))
+    λ i. record { bytes = count i; answer = answer i }
 
-pub replay-unique : (text out : List ℕ) (r s : Replayed) (out′ out″ : List ℕ) → Replays Words text out r out′ → Replays Words text out s out″
-    → (r ≡ s) × (out′ ≡ out″)
-replay-unique = report-unique Words
+pub replay-unique : AllowsOne replay.Kinds.ps replay.Kinds.r replay.Reads.Learnt
+replay-unique κs a x y last last′ p q = (same-replayed Words (p .0) (q .0), λ i. (tt, (same-answer (p .0 .bytes) (q .0 .bytes) i, tt)))
 
-pub screen-unique : (text out : List ℕ) (r s : Replayed) (out′ out″ : List ℕ) → Replays Screen text out r out′ → Replays Screen text out s out″
-    → (r ≡ s) × (out′ ≡ out″)
-screen-unique = report-unique Screen
+pub screen-unique : AllowsOne screen.Kinds.ps screen.Kinds.r screen.Reads.Learnt
+screen-unique κs a x y last last′ p q = (same-replayed Screen (p .0) (q .0), λ i. (tt, (same-answer (p .0 .bytes) (q .0 .bytes) i, tt)))

@@ -1,17 +1,20 @@
--- Any two results that a contract of this crate allows coincide.
+-- The contracts of this crate's functions allow one outcome each: `AllowsOne` of the base crate, of what each generated contract tells.
 -- Assumes nothing.
 use mathlib.Core.Path.{_≡_, refl, ap}
 use Prim.Native.Nat.{ℕ}
 use Rattle.base.specs.Refusals.{Told, done, refused}
+use Rattle.base.specs.Unique.{AllowsOne}
 use Rattle.base.proofs.Refusals.{refusalOf, refusal-back}
-use Rattle.base.proofs.Unique.{same-telling}
-use Rattle.word.specs.Words.{decodedOf, encodedOf}
+use Rattle.base.proofs.Unique.{same-answer, same-telling}
 use Rattle.word.specs.Answers.{decodedTells, encodedTells}
 use Rattle.word.specs.declared.Command.{Command}
 use Rattle.word.specs.declared.Decoded.{Decoded}
 use Rattle.word.specs.declared.Decoded.the-variants as Dec
 use Rattle.word.specs.declared.Encoded.{Encoded}
 use Rattle.word.specs.declared.Encoded.the-variants as Enc
+use Rattle.word.proofs.decode
+use Rattle.word.proofs.encode
+use Rattle.word.proofs.is_legal
 
 decoded : Told Command → Decoded
 decoded (done c) = Dec.Means c
@@ -22,8 +25,8 @@ unfolding decoded
 decoded-back (Dec.Means c) = refl
 decoded-back (Dec.Refused e) = ap Dec.Refused (refusal-back e)
 
-pub decode-unique : (word : ℕ) (r s : Decoded) → decodedTells r ≡ decodedOf word → decodedTells s ≡ decodedOf word → r ≡ s
-decode-unique word = same-telling decodedTells decoded decoded-back
+pub decode-unique : AllowsOne decode.Kinds.ps decode.Kinds.r decode.Reads.Learnt
+decode-unique κs a x y last last′ p q = (same-telling decodedTells decoded decoded-back x y p q, refl)
 
 encoded : Told ℕ → Encoded
 encoded (done w) = Enc.Word w
@@ -34,5 +37,8 @@ unfolding encoded
 encoded-back (Enc.Word w) = refl
 encoded-back (Enc.Refused e) = ap Enc.Refused (refusal-back e)
 
-pub encode-unique : (command : Command) (r s : Encoded) → encodedTells r ≡ encodedOf command → encodedTells s ≡ encodedOf command → r ≡ s
-encode-unique command = same-telling encodedTells encoded encoded-back
+pub encode-unique : AllowsOne encode.Kinds.ps encode.Kinds.r encode.Reads.Learnt
+encode-unique κs a x y last last′ p q = (same-telling encodedTells encoded encoded-back x y p q, refl)
+
+pub is-legal-unique : AllowsOne is_legal.Kinds.ps is_legal.Kinds.r is_legal.Reads.Learnt
+is-legal-unique κs a x y last last′ p q = (same-answer p q, refl)

@@ -1,22 +1,28 @@
--- Any two results that a contract of this crate allows coincide, the lent arrays included.
+-- The contracts of the library's functions allow one outcome each: `AllowsOne` of the base crate, of what each generated contract tells; the
+-- answer and the lent arrays included.
 -- Assumes nothing.
-use mathlib.Core.Path.{_≡_}
-use mathlib.Core.List.{List}
-use Prim.Native.Nat.{ℕ}
+use mathlib.Core.Path.{refl}
+use Rattle.base.specs.Unique.{AllowsOne}
 use Rattle.base.proofs.Unique.{same-answer}
-use Rattle.zhaqsumir.specs.Numbers.{decodeNumbers, encodeNumbers, findNumbers, WritesNumbers, ReplaysNumbers}
+use Rattle.zhaqsumir.proofs.zhaqsumir_decode
+use Rattle.zhaqsumir.proofs.zhaqsumir_encode
+use Rattle.zhaqsumir.proofs.zhaqsumir_write
+use Rattle.zhaqsumir.proofs.zhaqsumir_find
+use Rattle.zhaqsumir.proofs.zhaqsumir_replay
 
-pub library-decode-unique : (word : ℕ) (r s : List ℕ) → r ≡ decodeNumbers word → s ≡ decodeNumbers word → r ≡ s
-library-decode-unique word r s = same-answer
+pub library-decode-unique : AllowsOne zhaqsumir_decode.Kinds.ps zhaqsumir_decode.Kinds.r zhaqsumir_decode.Reads.Learnt
+library-decode-unique κs a x y last last′ p q = (refl, λ i. (tt, (same-answer p q i, tt)))
 
-pub library-encode-unique : (command : List ℕ) (r s : List ℕ) → r ≡ encodeNumbers command → s ≡ encodeNumbers command → r ≡ s
-library-encode-unique command r s = same-answer
+pub library-encode-unique : AllowsOne zhaqsumir_encode.Kinds.ps zhaqsumir_encode.Kinds.r zhaqsumir_encode.Reads.Learnt
+library-encode-unique κs a x y last last′ p q = (refl, λ i. (tt, (same-answer p q i, tt)))
 
-pub library-write-unique : (n : ℕ) (words out : List ℕ) (r s out′ out″ : List ℕ) → WritesNumbers n words out r out′ → WritesNumbers n words out s out″ → (r ≡ s) × (out′ ≡ out″)
-library-write-unique n words out r s out′ out″ p q = (same-answer (p .numbers) (q .numbers), same-answer (p .bytes) (q .bytes))
+pub library-write-unique : AllowsOne zhaqsumir_write.Kinds.ps zhaqsumir_write.Kinds.r zhaqsumir_write.Reads.Learnt
+library-write-unique κs a x y last last′ p q =
+    (refl, λ i. (tt, (tt, (same-answer (p .bytes) (q .bytes) i, (same-answer (p .numbers) (q .numbers) i, tt)))))
 
-pub library-find-unique : (levels : ℕ) (samples : List ℕ) (r s : List ℕ) → r ≡ findNumbers levels samples → s ≡ findNumbers levels samples → r ≡ s
-library-find-unique levels samples r s = same-answer
+pub library-find-unique : AllowsOne zhaqsumir_find.Kinds.ps zhaqsumir_find.Kinds.r zhaqsumir_find.Reads.Learnt
+library-find-unique κs a x y last last′ p q = (refl, λ i. (tt, (tt, (same-answer p q i, tt))))
 
-pub library-replay-unique : (text out : List ℕ) (r s out′ out″ : List ℕ) → ReplaysNumbers text out r out′ → ReplaysNumbers text out s out″ → (r ≡ s) × (out′ ≡ out″)
-library-replay-unique text out r s out′ out″ p q = (same-answer (p .numbers) (q .numbers), same-answer (p .bytes) (q .bytes))
+pub library-replay-unique : AllowsOne zhaqsumir_replay.Kinds.ps zhaqsumir_replay.Kinds.r zhaqsumir_replay.Reads.Learnt
+library-replay-unique κs a x y last last′ p q =
+    (refl, λ i. (tt, (same-answer (p .bytes) (q .bytes) i, (same-answer (p .numbers) (q .numbers) i, tt))))
