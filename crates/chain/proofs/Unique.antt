@@ -1,56 +1,28 @@
--- Any two results that a contract of this crate allows coincide. A contract `r ≡ x` allows one result by `same-answer` of the
--- base crate, and `tested` and `checked` one verdict by `same-verdict`; here are the entries.
+-- The contracts of this crate's functions allow one outcome each: `AllowsOne` of the base crate, of what each generated contract tells.
+-- The entries come first, then the inner functions.
 -- Assumes nothing.
 use mathlib.Core.Path.{_≡_, refl, ap, sym, _∙_}
-use mathlib.Core.List.{List}
-use Prim.Native.Nat.{ℕ}
 use Rattle.base.specs.Refusals.{Outcome}
+use Rattle.base.specs.Unique.{AllowsOne}
 use Rattle.base.proofs.Unique.{same-answer, same-verdict}
-use Rattle.word.specs.declared.Command.{Command}
-use Rattle.chip.specs.declared.Lit.{Lit}
 use Rattle.chip.proofs.Unique.{same-scan-answer, same-lit}
 use Rattle.chain.specs.declared.Chain.{Chain}
 use Rattle.chain.specs.declared.Handed.{Handed}
-use Rattle.chain.specs.declared.Seen.{Seen}
-use Rattle.chain.specs.declared.one.Scanned.{Scanned}
-use Rattle.chain.specs.declared.finder.Found.{Found}
 use Rattle.chain.specs.declared.finder.Rise.{Rise}
 use Rattle.chain.specs.declared.finder.Rise.the-variants as Rises
-use Rattle.chain.specs.Finder.{NextRise, riseAt, noRise, nextRiseOf, handedFound, foundOf}
-use Rattle.chain.specs.Entries.{handed, startedOf, playedOf, handedScan, scannedOf, appliedOf, handedLit, segmentsOf, handedSeen, seenOf}
+use Rattle.chain.specs.Finder.{NextRise, riseAt, noRise, nextRiseOf}
+use Rattle.chain.specs.Entries.{handed}
+use Rattle.chain.proofs.start
+use Rattle.chain.proofs.host_sees
+use Rattle.chain.proofs.play
+use Rattle.chain.proofs.one
+use Rattle.chain.proofs.finder
+use Rattle.chain.proofs.tests
 
 handed-same : {x : Outcome Chain (Unit {0})} (r s : Handed) → handed r ≡ x → handed s ≡ x → r ≡ s
 handed-same r s p q =
     let e = same-answer p q in
     λ i. record { chain = ap (λ o. o .state) e i; answer = same-verdict {v = r .answer} {w = s .answer} (ap (λ o. o .told) e) i }
-
-pub start-unique : (n : ℕ) (r s : Handed) → handed r ≡ startedOf n → handed s ≡ startedOf n → r ≡ s
-start-unique n = handed-same
-
-pub play-unique : (n : ℕ) (ch : Chain) (ss : List ℕ) (r s : Handed) → handed r ≡ playedOf n ch ss → handed s ≡ playedOf n ch ss → r ≡ s
-play-unique n ch ss = handed-same
-
-pub apply-unique : (n : ℕ) (ch : Chain) (k : ℕ) (command : Command) (r s : Handed)
-    → handed r ≡ appliedOf n ch k command
-    → handed s ≡ appliedOf n ch k command
-    → r ≡ s
-apply-unique n ch k command = handed-same
-
-pub scan-unique : (n : ℕ) (ch : Chain) (k : ℕ) (bytes : List ℕ) (r s : Scanned)
-    → handedScan r ≡ scannedOf n ch k bytes
-    → handedScan s ≡ scannedOf n ch k bytes
-    → r ≡ s
-scan-unique n ch k bytes r s p q =
-    let e = same-answer p q in
-    λ i. record { chain = ap (λ o. o .state) e i; answer = same-scan-answer {a = r .answer} {b = s .answer} (ap (λ o. o .told) e) i }
-
-pub segments-lit-unique : (n : ℕ) (ch : Chain) (k : ℕ) (r s : Lit) → handedLit r ≡ segmentsOf n ch k → handedLit s ≡ segmentsOf n ch k → r ≡ s
-segments-lit-unique n ch k = same-lit
-
-pub host-sees-unique : (n : ℕ) (ch : Chain) (r s : Seen) → handedSeen r ≡ seenOf n ch → handedSeen s ≡ seenOf n ch → r ≡ s
-host-sees-unique n ch r s p q =
-    let e = same-answer p q in
-    λ i. record { level = ap (λ o. o .state) e i; answer = same-verdict {v = r .answer} {w = s .answer} (ap (λ o. o .told) e) i }
 
 rise-of : NextRise → Rise
 rise-of (riseAt place) = Rises.At place
@@ -61,12 +33,49 @@ unfolding rise-of
 rise-back (Rises.At place) = refl
 rise-back Rises.Nothing = refl
 
-pub next-rise-unique : (levels : ℕ) (ss : List ℕ) (r s : Found) → handedFound r ≡ foundOf levels ss → handedFound s ≡ foundOf levels ss → r ≡ s
-next-rise-unique levels ss r s p q =
+-- ---- the entries
+
+pub start-unique : AllowsOne start.Kinds.ps start.Kinds.r start.Reads.Learnt
+start-unique κs a x y last last′ p q = (handed-same x y p q, refl)
+
+pub host-sees-unique : AllowsOne host_sees.Kinds.ps host_sees.Kinds.r host_sees.Reads.Learnt
+host-sees-unique κs a x y last last′ p q =
     let e = same-answer p q in
-    λ i.
-    record {
-      rise = (sym (rise-back (r .rise)) ∙ ap (λ o. rise-of (o .state .rise)) e ∙ rise-back (s .rise)) i;
-      passed = ap (λ o. o .state .passed) e i;
-      answer = same-verdict {v = r .answer} {w = s .answer} (ap (λ o. o .told) e) i;
-    }
+    let answer = same-verdict {v = x .answer} {w = y .answer} (ap (λ o. o .told) e) in
+    (λ i. record { level = ap (λ o. o .state) e i; answer = answer i }, refl)
+
+pub play-unique : AllowsOne play.play.Kinds.ps play.play.Kinds.r play.play.Reads.Learnt
+play-unique κs a x y last last′ p q = (handed-same x y p q, refl)
+
+pub apply-unique : AllowsOne one.apply.Kinds.ps one.apply.Kinds.r one.apply.Reads.Learnt
+apply-unique κs a x y last last′ p q = (handed-same x y p q, refl)
+
+pub scan-unique : AllowsOne one.scan.Kinds.ps one.scan.Kinds.r one.scan.Reads.Learnt
+scan-unique κs a x y last last′ p q =
+    let e = same-answer p q in
+    let answer = same-scan-answer {a = x .answer} {b = y .answer} (ap (λ o. o .told) e) in
+    (λ i. record { chain = ap (λ o. o .state) e i; answer = answer i }, refl)
+
+pub segments-lit-unique : AllowsOne one.segments_lit.Kinds.ps one.segments_lit.Kinds.r one.segments_lit.Reads.Learnt
+segments-lit-unique κs a x y last last′ p q = (same-lit x y p q, refl)
+
+pub next-rise-unique : AllowsOne finder.next_rise.Kinds.ps finder.next_rise.Kinds.r finder.next_rise.Reads.Learnt
+next-rise-unique κs a x y last last′ p q =
+    let e = same-answer p q in
+    let answer = same-verdict {v = x .answer} {w = y .answer} (ap (λ o. o .told) e) in
+    let rise = sym (rise-back (x .rise)) ∙ ap (λ o. rise-of (o .state .rise)) e ∙ rise-back (y .rise) in
+    (λ i. record { rise = rise i; passed = ap (λ o. o .state .passed) e i; answer = answer i }, refl)
+
+-- ---- the inner functions
+
+pub chip-at-unique : AllowsOne one.chip_at.Kinds.ps one.chip_at.Kinds.r one.chip_at.Reads.Learnt
+chip-at-unique κs a x y last last′ p q = (same-answer p q, refl)
+
+pub is-count-unique : AllowsOne tests.is_count.Kinds.ps tests.is_count.Kinds.r tests.is_count.Reads.Learnt
+is-count-unique κs a x y last last′ p q = (same-answer p q, refl)
+
+pub checked-unique : AllowsOne tests.checked.Kinds.ps tests.checked.Kinds.r tests.checked.Reads.Learnt
+checked-unique κs a x y last last′ p q = (same-verdict {v = x} {w = y} (same-answer p q), refl)
+
+pub tested-unique : AllowsOne tests.tested.Kinds.ps tests.tested.Kinds.r tests.tested.Reads.Learnt
+tested-unique κs a x y last last′ p q = (same-verdict {v = x} {w = y} (same-answer p q), refl)

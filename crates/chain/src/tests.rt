@@ -18,7 +18,7 @@ pub fn is_count(n: usize) -> bool
 }
 
 // Refusal 12's test: every record below N is valid, and the levels are at most 7.
-pub fn is_valid(n: usize, chain: Chain) -> bool
+fn is_valid(n: usize, chain: Chain) -> bool
     ensures { λ r. ⌜ r ≡ C.validChain n chain ⌝ }
 {
     let chips = chain.chips;
@@ -51,7 +51,7 @@ pub fn checked(samples: &[u8]) -> Verdict
 }
 
 // The tests that come first in every entry that is given a chain: refusals 3, 12.
-pub fn tested(n: usize, chain: Chain) -> Verdict
+pub(crate) fn tested(n: usize, chain: Chain) -> Verdict
     ensures { λ r. ⌜ verdictTells r ≡ C.testedOf n chain ⌝ }
 {
     if !is_count(n) {

@@ -1,23 +1,32 @@
--- Any two results that a contract of this crate allows coincide. A contract `r ≡ x` allows one result by `same-answer` of the
--- base crate; here are the entries, whose contracts go through what they tell.
+-- The contracts of this crate's functions allow one outcome each: `AllowsOne` of the base crate, of what each generated contract tells.
+-- The entries come first, then the inner functions by module.
 -- Assumes nothing.
 use mathlib.Core.Path.{_≡_, refl, ap, sym, _∙_}
 use mathlib.Core.List.{List}
 use Prim.Native.Nat.{ℕ}
 use Rattle.base.specs.Refusals.{Told, done, refused, Outcome}
+use Rattle.base.specs.Unique.{AllowsOne}
 use Rattle.base.proofs.Refusals.{refusalOf, refusal-back}
 use Rattle.base.proofs.Unique.{same-answer, same-verdict}
-use Rattle.word.specs.declared.Command.{Command}
 use Rattle.chip.specs.declared.Chip.{Chip}
 use Rattle.chip.specs.declared.Recorded.{Recorded}
 use Rattle.chip.specs.declared.Recorded.the-variants as Records
 use Rattle.chip.specs.declared.Handed.{Handed}
-use Rattle.chip.specs.declared.Scanned.{Scanned}
 use Rattle.chip.specs.declared.ScanAnswer.{ScanAnswer}
 use Rattle.chip.specs.declared.ScanAnswer.the-variants.{Took, Refused}
 use Rattle.chip.specs.declared.Lit.{Lit}
 use Rattle.chip.specs.Scans.{Recording, nothing, keyCode, recordingOf}
-use Rattle.chip.specs.Entries.{handed, appliedOf, sampledOf, scanTells, handedScan, scannedOf, handedLit, segmentsOf}
+use Rattle.chip.specs.Entries.{handed, scanTells, handedLit}
+use Rattle.chip.proofs.reset_chip
+use Rattle.chip.proofs.apply
+use Rattle.chip.proofs.sample
+use Rattle.chip.proofs.scan
+use Rattle.chip.proofs.segments_lit
+use Rattle.chip.proofs.is_valid
+use Rattle.chip.proofs.commands
+use Rattle.chip.proofs.edges
+use Rattle.chip.proofs.scans
+use Rattle.chip.proofs.segments
 
 -- ---- what is handed back is told
 
@@ -60,16 +69,76 @@ same-lit r s p q =
 
 -- ---- the entries
 
-pub apply-unique : (c : Chip) (command : Command) (r s : Handed) → handed r ≡ appliedOf c command → handed s ≡ appliedOf c command → r ≡ s
-apply-unique c command = handed-same
+pub reset-chip-unique : AllowsOne reset_chip.Kinds.ps reset_chip.Kinds.r reset_chip.Reads.Learnt
+reset-chip-unique κs a x y last last′ p q = (same-answer p q, refl)
 
-pub sample-unique : (c : Chip) (levels sample : ℕ) (r s : Handed) → handed r ≡ sampledOf c levels sample → handed s ≡ sampledOf c levels sample → r ≡ s
-sample-unique c levels sample = handed-same
+pub apply-unique : AllowsOne apply.Kinds.ps apply.Kinds.r apply.Reads.Learnt
+apply-unique κs a x y last last′ p q = (handed-same x y p q, refl)
 
-pub scan-unique : (c : Chip) (bytes : List ℕ) (r s : Scanned) → handedScan r ≡ scannedOf c bytes → handedScan s ≡ scannedOf c bytes → r ≡ s
-scan-unique c bytes r s p q =
+pub sample-unique : AllowsOne sample.Kinds.ps sample.Kinds.r sample.Reads.Learnt
+sample-unique κs a x y last last′ p q = (handed-same x y p q, refl)
+
+pub scan-unique : AllowsOne scan.Kinds.ps scan.Kinds.r scan.Reads.Learnt
+scan-unique κs a x y last last′ p q =
     let e = same-answer p q in
-    λ i. record { chip = ap (λ o. o .state) e i; answer = same-scan-answer {a = r .answer} {b = s .answer} (ap (λ o. o .told) e) i }
+    let answer = same-scan-answer {a = x .answer} {b = y .answer} (ap (λ o. o .told) e) in
+    (λ i. record { chip = ap (λ o. o .state) e i; answer = answer i }, refl)
 
-pub segments-lit-unique : (c : Chip) (r s : Lit) → handedLit r ≡ segmentsOf c → handedLit s ≡ segmentsOf c → r ≡ s
-segments-lit-unique c = same-lit
+pub segments-lit-unique : AllowsOne segments_lit.Kinds.ps segments_lit.Kinds.r segments_lit.Reads.Learnt
+segments-lit-unique κs a x y last last′ p q = (same-lit x y p q, refl)
+
+-- ---- the inner functions
+
+pub is-valid-unique : AllowsOne is_valid.Kinds.ps is_valid.Kinds.r is_valid.Reads.Learnt
+is-valid-unique κs a x y last last′ p q = (same-answer p q, refl)
+
+pub reset-settings-unique : AllowsOne commands.reset_settings.Kinds.ps commands.reset_settings.Kinds.r commands.reset_settings.Reads.Learnt
+reset-settings-unique κs a x y last last′ p q = (same-answer p q, refl)
+
+pub reset-keys-unique : AllowsOne commands.reset_keys.Kinds.ps commands.reset_keys.Kinds.r commands.reset_keys.Reads.Learnt
+reset-keys-unique κs a x y last last′ p q = (same-answer p q, refl)
+
+pub applied-unique : AllowsOne commands.applied.Kinds.ps commands.applied.Kinds.r commands.applied.Reads.Learnt
+applied-unique κs a x y last last′ p q = (same-answer p q, refl)
+
+pub loaded-unique : AllowsOne commands.loaded.Kinds.ps commands.loaded.Kinds.r commands.loaded.Reads.Learnt
+loaded-unique κs a x y last last′ p q = (same-answer p q, refl)
+
+pub din-unique : AllowsOne edges.din.Kinds.ps edges.din.Kinds.r edges.din.Reads.Learnt
+din-unique κs a x y last last′ p q = (same-answer p q, refl)
+
+pub dclk-rises-unique : AllowsOne edges.dclk_rises.Kinds.ps edges.dclk_rises.Kinds.r edges.dclk_rises.Reads.Learnt
+dclk-rises-unique κs a x y last last′ p q = (same-answer p q, refl)
+
+pub dclk-falls-unique : AllowsOne edges.dclk_falls.Kinds.ps edges.dclk_falls.Kinds.r edges.dclk_falls.Reads.Learnt
+dclk-falls-unique κs a x y last last′ p q = (same-answer p q, refl)
+
+pub load-rises-unique : AllowsOne edges.load_rises.Kinds.ps edges.load_rises.Kinds.r edges.load_rises.Reads.Learnt
+load-rises-unique κs a x y last last′ p q = (same-answer p q, refl)
+
+pub shifted-unique : AllowsOne edges.shifted.Kinds.ps edges.shifted.Kinds.r edges.shifted.Reads.Learnt
+shifted-unique κs a x y last last′ p q = (same-answer p q, refl)
+
+pub lowest-bit-unique : AllowsOne edges.lowest_bit.Kinds.ps edges.lowest_bit.Kinds.r edges.lowest_bit.Reads.Learnt
+lowest-bit-unique κs a x y last last′ p q = (same-answer p q, refl)
+
+pub moved-on-unique : AllowsOne edges.moved_on.Kinds.ps edges.moved_on.Kinds.r edges.moved_on.Reads.Learnt
+moved-on-unique κs a x y last last′ p q = (same-answer p q, refl)
+
+pub shows-unique : AllowsOne edges.shows.Kinds.ps edges.shows.Kinds.r edges.shows.Reads.Learnt
+shows-unique κs a x y last last′ p q = (same-answer p q, refl)
+
+pub dout-unique : AllowsOne edges.dout.Kinds.ps edges.dout.Kinds.r edges.dout.Reads.Learnt
+dout-unique κs a x y last last′ p q = (same-answer p q, refl)
+
+pub stepped-unique : AllowsOne edges.stepped.Kinds.ps edges.stepped.Kinds.r edges.stepped.Reads.Learnt
+stepped-unique κs a x y last last′ p q = (same-answer p q, refl)
+
+pub scanned-unique : AllowsOne scans.scanned.Kinds.ps scans.scanned.Kinds.r scans.scanned.Reads.Learnt
+scanned-unique κs a x y last last′ p q =
+    let e = same-answer p q in
+    let what = sym (record-back (x .recorded)) ∙ ap (λ t. record-of (t .recorded)) e ∙ record-back (y .recorded) in
+    (λ i. record { chip = ap (λ t. t .chip) e i; recorded = what i }, refl)
+
+pub lit-unique : AllowsOne segments.lit.Kinds.ps segments.lit.Kinds.r segments.lit.Reads.Learnt
+lit-unique κs a x y last last′ p q = (same-answer p q, refl)

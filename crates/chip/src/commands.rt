@@ -38,7 +38,7 @@ pub fn reset_settings() -> Settings
     }
 }
 
-pub fn reset_keys() -> Keys
+pub(crate) fn reset_keys() -> Keys
     ensures { λ r. ⌜ r ≡ resetKeys ⌝ }
 {
     Keys {
@@ -198,7 +198,7 @@ fn with_display(d: Display, chip: Chip) -> Chip
 }
 
 // What a command does to a chip that is awake.
-pub fn obey(command: Command, chip: Chip) -> Chip
+fn obey(command: Command, chip: Chip) -> Chip
     ensures { λ r. ⌜ r ≡ C.obey command chip ⌝ }
 {
     let mut next = chip;
@@ -250,7 +250,7 @@ pub fn applied(command: Command, chip: Chip) -> Chip
 }
 
 // A LOAD rise: the register is obeyed, whatever it holds.
-pub fn loaded(chip: Chip) -> Chip
+pub(crate) fn loaded(chip: Chip) -> Chip
     ensures { λ r. ⌜ r ≡ E.loaded chip ⌝ }
 {
     match word::decode(chip.line.register) {

@@ -96,7 +96,7 @@ pub fn dout(chip: Chip) -> bool
 }
 
 // What DCLK does to the line parts.
-pub fn clocked(was: u8, now: u8, din: bool, line: Line) -> Line
+fn clocked(was: u8, now: u8, din: bool, line: Line) -> Line
     ensures { λ r. ⌜ r ≡ E.clocked was «now» din line ⌝ }
 {
     let mut l = line;

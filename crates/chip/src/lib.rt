@@ -1,6 +1,7 @@
-// One CH452 chip: its record, the edges of its wires, what commands do, the segments lit and key scans. The public entries of
-// this file count as N = 1 of document 01: each tests its chip first; where it refuses, it hands the chip back as it was, or no
-// segments. The modules below them answer for every record, valid or not.
+// One CH452 chip: its record, the edges of its wires, what commands do, the segments lit and key scans. The entries are
+// `reset_chip`, `apply`, `sample`, `scan` and `segments_lit`. They count as N = 1 of document 01: each tests its chip first; where it
+// refuses, it hands the chip back as it was, or no segments. `is_valid` and the modules are inner: other crates call them, they
+// answer for every record, valid or not, and refuse nothing.
 use base::Refusal;
 use base::Verdict;
 use word::Command;

@@ -17,7 +17,7 @@ fn is_closed(bytes: [u8; 8], addr: u8) -> bool
 }
 
 // The smallest closed address, or NONE.
-pub fn result(bytes: [u8; 8]) -> u8
+fn result(bytes: [u8; 8]) -> u8
     ensures { λ r. ⌜ r ≡ S.result bytes ⌝ }
 {
     let mut addr: u8 = 0;

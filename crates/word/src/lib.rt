@@ -1,5 +1,6 @@
 // Commands and 12-bit words: document 01's chapter "The words". A word decodes to one of sixteen kinds of command, and a
-// command encodes to its word. Both answer every input, by document 01's table or with its refusal.
+// command encodes to its word. The entries are `decode` and `encode`, which answer every input, by document 01's table or with its
+// refusal; `is_legal` is an inner function, for the other crates.
 use base::Refusal;
 ghost use mathlib.Core.Path.{_≡_};
 ghost use Prim.Native.Nat.{_+_, _/_, _≤_};

@@ -1,4 +1,5 @@
-// The writer: rows of words to samples, each row into its own stretch of the lent buffer.
+// The writer: rows of words to samples, each row into its own stretch of the lent buffer. The entry is `write`; nothing else is
+// public.
 use base::Refusal;
 use base::Verdict;
 use word::Command;

@@ -10,19 +10,19 @@ use Rattle.zhaqsumir.proofs.zhaqsumir_write
 use Rattle.zhaqsumir.proofs.zhaqsumir_find
 use Rattle.zhaqsumir.proofs.zhaqsumir_replay
 
-pub library-decode-unique : AllowsOne zhaqsumir_decode.Kinds.ps zhaqsumir_decode.Kinds.r zhaqsumir_decode.Reads.Learnt
-library-decode-unique κs a x y last last′ p q = (refl, λ i. (tt, (same-answer p q i, tt)))
+pub zhaqsumir-decode-unique : AllowsOne zhaqsumir_decode.Kinds.ps zhaqsumir_decode.Kinds.r zhaqsumir_decode.Reads.Learnt
+zhaqsumir-decode-unique κs a x y last last′ p q = (refl, λ i. (tt, (same-answer p q i, tt)))
 
-pub library-encode-unique : AllowsOne zhaqsumir_encode.Kinds.ps zhaqsumir_encode.Kinds.r zhaqsumir_encode.Reads.Learnt
-library-encode-unique κs a x y last last′ p q = (refl, λ i. (tt, (same-answer p q i, tt)))
+pub zhaqsumir-encode-unique : AllowsOne zhaqsumir_encode.Kinds.ps zhaqsumir_encode.Kinds.r zhaqsumir_encode.Reads.Learnt
+zhaqsumir-encode-unique κs a x y last last′ p q = (refl, λ i. (tt, (same-answer p q i, tt)))
 
-pub library-write-unique : AllowsOne zhaqsumir_write.Kinds.ps zhaqsumir_write.Kinds.r zhaqsumir_write.Reads.Learnt
-library-write-unique κs a x y last last′ p q =
+pub zhaqsumir-write-unique : AllowsOne zhaqsumir_write.Kinds.ps zhaqsumir_write.Kinds.r zhaqsumir_write.Reads.Learnt
+zhaqsumir-write-unique κs a x y last last′ p q =
     (refl, λ i. (tt, (tt, (same-answer (p .bytes) (q .bytes) i, (same-answer (p .numbers) (q .numbers) i, tt)))))
 
-pub library-find-unique : AllowsOne zhaqsumir_find.Kinds.ps zhaqsumir_find.Kinds.r zhaqsumir_find.Reads.Learnt
-library-find-unique κs a x y last last′ p q = (refl, λ i. (tt, (tt, (same-answer p q i, tt))))
+pub zhaqsumir-find-unique : AllowsOne zhaqsumir_find.Kinds.ps zhaqsumir_find.Kinds.r zhaqsumir_find.Reads.Learnt
+zhaqsumir-find-unique κs a x y last last′ p q = (refl, λ i. (tt, (tt, (same-answer p q i, tt))))
 
-pub library-replay-unique : AllowsOne zhaqsumir_replay.Kinds.ps zhaqsumir_replay.Kinds.r zhaqsumir_replay.Reads.Learnt
-library-replay-unique κs a x y last last′ p q =
+pub zhaqsumir-replay-unique : AllowsOne zhaqsumir_replay.Kinds.ps zhaqsumir_replay.Kinds.r zhaqsumir_replay.Reads.Learnt
+zhaqsumir-replay-unique κs a x y last last′ p q =
     (refl, λ i. (tt, (same-answer (p .bytes) (q .bytes) i, (same-answer (p .numbers) (q .numbers) i, tt))))

@@ -1,6 +1,6 @@
-// The till's own library: the proved functions for C to link. Each takes numbers and slices, and answers by numbers in a lent
-// array: a refusal's number and place, 0 and 0 where there is none, then the answer, zeros where it is refused. A replay counts
-// the bytes that it wrote either way.
+// The till's own library: the proved functions for C to link, five entries. Each takes numbers and slices, and answers by numbers
+// in a lent array: a refusal's number and place, 0 and 0 where there is none, then the answer, zeros where it is refused. A replay
+// counts the bytes that it wrote either way.
 // include/zhaqsumir.h is their header.
 mod commands;
 
