@@ -141,7 +141,7 @@ void count_answer(struct tally *tally, unsigned long number, unsigned long place
 {
     tally->compared++;
     if (number > 12)
-        return;                                         /* no twin gives it */
+        return;                                         /* the twin never gives it */
     tally->times[number]++;
     if (tally->farthest[number] < place)
         tally->farthest[number] = place;

@@ -1,5 +1,5 @@
-/* Compares the library that C links, libzhaqsumir.a, with plain C twins that were written from document 01: the boundary between the
- * two languages, which no proof covers.
+/* Compares the library that C links, libzhaqsumir.a, with the plain twin, which was written from document 01: the boundary between
+ * the two languages, which no proof covers.
  *
  *     library COUNT SEED [TEXT GOT]...
  *

@@ -1,4 +1,4 @@
-/* The writer and the finder beside their twins, on random lists and blocks. */
+/* The writer and the finder beside the twin's, on random lists and blocks. */
 #include "check.h"
 #include "libc.h"
 #include "twin.h"

@@ -1,4 +1,4 @@
-/* The replay beside its twin: stored captures, and random texts of rows, odd samples and key scans, a third of them damaged. */
+/* The replay beside the twin's: stored captures, and random texts of rows, odd samples and key scans, a third of them damaged. */
 #include "check.h"
 #include "libc.h"
 #include "twin.h"

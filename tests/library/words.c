@@ -1,4 +1,4 @@
-/* Decode and encode beside their twins: every word and many commands in order, and random ones. */
+/* Decode and encode beside the twin's: every word and many commands in order, and random ones. */
 #include "check.h"
 #include "libc.h"
 #include "twin.h"

@@ -1,13 +1,14 @@
-/* The kit has a C library but no headers for it: what the test, the benchmark and the example use of it, for x86-64 Linux. */
+/* The kit has a C library but no headers for it: what the twin, the tests, the benchmarks and the example use of it, for x86-64 Linux. */
 #ifndef LIBC_H
 #define LIBC_H
 
 #define NULL ((void *)0)
 
 typedef struct _IO_FILE FILE;
-extern FILE *stderr;
+extern FILE *stdin, *stdout, *stderr;
 int printf(const char *format, ...);
 int fprintf(FILE *file, const char *format, ...);
+int snprintf(char *to, unsigned long size, const char *format, ...);
 FILE *fopen(const char *name, const char *mode);
 unsigned long fread(void *to, unsigned long size, unsigned long count, FILE *file);
 unsigned long fwrite(const void *from, unsigned long size, unsigned long count, FILE *file);
@@ -15,7 +16,9 @@ int fclose(FILE *file);
 
 int memcmp(const void *one, const void *other, unsigned long size);
 void *memcpy(void *to, const void *from, unsigned long size);
+void *memmove(void *to, const void *from, unsigned long size);
 void *memset(void *to, int byte, unsigned long size);
+int strcmp(const char *one, const char *other);
 unsigned long strtoul(const char *text, char **end, int base);
 _Noreturn void exit(int status);
 
