@@ -1,4 +1,4 @@
-/* Times the library that C links beside its plain twins, in one process: each job is done by the one and by the other in turn, nine
+/* Times the library that C links beside the plain twin, in one process: each job is done by the one and by the other in turn, nine
  * times, after turns that aren't counted; the medians are divided. Both must answer the same.
  *
  *     library TEXT                    TEXT is what is replayed
@@ -11,7 +11,7 @@
 
 enum { TURNS = 9, CHIPS = 8, ROWS = 64, BLOCK = 65536 };
 
-/* Both sides are called by pointers, so that no compiler takes a twin apart where it is called. */
+/* Both sides are called by pointers, so that no compiler takes the twin apart where it is called. */
 struct side {
     void (*decode)(unsigned short, unsigned long *);
     void (*encode)(const unsigned long *, unsigned long *);
