@@ -47,16 +47,15 @@ static void clock_fall(struct chip *chips, unsigned n)
     }
 }
 
-/* Plays the DCLK edge of a sample; says whether LOAD rises, at which each chip is then to obey. */
-static int clocked(struct chain *chain, unsigned sample)
+/* Plays the DCLK edge of a sample after another; says whether LOAD rises, at which each chip is then to obey. */
+static int clocked(struct chip *chips, unsigned n, unsigned before, unsigned sample)
 {
-    unsigned rises = ~chain->levels & sample, falls = chain->levels & ~sample;
+    unsigned rises = ~before & sample, falls = before & ~sample;
 
     if (rises & DCLK)
-        clock_rise(chain->chips, chain->n, sample & DIN);
+        clock_rise(chips, n, sample & DIN);
     if (falls & DCLK)
-        clock_fall(chain->chips, chain->n);
-    chain->levels = (unsigned char)sample;
+        clock_fall(chips, n);
     return (rises & LOAD) != 0;
 }
 
@@ -75,16 +74,19 @@ void start(struct chain *chain, unsigned n)
 
 int play(struct chain *chain, const unsigned char *samples, unsigned long count)
 {
+    unsigned n = chain->n, k;
+    unsigned char levels = chain->levels;
     unsigned long i;
-    unsigned k;
 
     if (bad_sample(samples, count) < count)
         return 0;
     for (i = 0; i < count; i++) {
-        if (clocked(chain, samples[i])) {
-            for (k = 0; k < chain->n; k++)
+        if (clocked(chain->chips, n, levels, samples[i])) {
+            for (k = 0; k < n; k++)
                 obey(&chain->chips[k]);
         }
+        levels = samples[i];
     }
+    chain->levels = levels;
     return 1;
 }

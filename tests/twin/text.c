@@ -118,12 +118,15 @@ static unsigned char *loaded(struct chain *chain, int screen, unsigned char *to)
 
 static unsigned char *played(struct chain *chain, const unsigned char *samples, int count, int screen, unsigned char *to)
 {
+    unsigned char levels = chain->levels;
     int i;
 
     for (i = 0; i < count; i++) {
-        if (clocked(chain, samples[i]))
+        if (clocked(chain->chips, chain->n, levels, samples[i]))
             to = loaded(chain, screen, to);
+        levels = samples[i];
     }
+    chain->levels = levels;
     return to;
 }
 
