@@ -1,0 +1,137 @@
+"""Where a recording comes from: a file or standard input, as it is or packed by gzip, read block by block; and how far it is read."""
+import gzip
+import io
+import os
+import stat
+import sys
+import time
+import zlib
+
+from .refusal import Refused, Unreadable, shown
+
+BLOCK = 1 << 18
+LONGEST_LINE = 1 << 20
+BOM = b"\xef\xbb\xbf"      # before a text in UTF-8, by some programs
+DAMAGED = "the gzip file is damaged or cut off"
+
+
+class Source:
+    """The bytes of a recording. `name` is for messages; `head` are the first bytes."""
+
+    def __init__(self, name, stream, progress):
+        self.name, self.stream, self.progress = name, stream, progress
+        self.head = self.ahead = self.more(4096)
+
+    def more(self, count):
+        """The stream's next bytes, fewer at its end."""
+        try:
+            data = self.stream.read(count)
+        except gzip.BadGzipFile:
+            raise Refused(DAMAGED) from None
+        except OSError as error:
+            raise Unreadable(error.strerror or "an error of the system") from None
+        except (EOFError, zlib.error):
+            raise Refused(DAMAGED) from None
+        self.progress.step(len(data))
+        return data
+
+    def read(self, count):
+        """The next bytes, fewer at the end. (gzip's reader calls this too.)"""
+        data, self.ahead = self.ahead[:count], self.ahead[count:]
+        return data if len(data) == count else data + self.more(count - len(data))
+
+    def unpacked(self):
+        """The bytes that gzip packed. How far they are read is counted in the packed ones."""
+        return Source(self.name, gzip.GzipFile(fileobj=self), Progress(None))
+
+    def seekable(self):
+        """A file of the same bytes in which one can go back and forth."""
+        if isinstance(self.stream, io.BufferedReader) and self.stream.seekable():
+            self.stream.seek(0)
+            return self.stream
+        import tempfile     # here alone: it takes long to load
+        copy = tempfile.TemporaryFile()
+        for block in self.blocks():
+            copy.write(block)
+        copy.seek(0)
+        return copy
+
+    def blocks(self):
+        """The bytes in blocks."""
+        block = self.read(BLOCK)
+        while block:
+            yield block
+            block = self.read(BLOCK)
+
+    def cut(self, marks):
+        """The bytes in blocks that end after one of the marks; the last block may end without one."""
+        rest = b""
+        if self.ahead.startswith(BOM):
+            self.ahead = self.ahead[len(BOM):]
+        for block in self.blocks():
+            end = max(block.rfind(mark) for mark in marks) + 1
+            if end:
+                yield rest + block[:end]
+                rest = block[end:]
+            else:
+                rest += block
+            if len(rest) > LONGEST_LINE:
+                raise Refused("a line is longer than %s bytes: this is no text" % format(LONGEST_LINE, ","))
+        if rest:
+            yield rest
+
+
+def opened(file):
+    """The recording in a file, or - for standard input."""
+    try:
+        if file == "-":
+            if sys.stdin is None:
+                raise Unreadable("it is closed")
+            stream = sys.stdin.buffer
+        else:
+            stream = open(file, "rb")
+        status = os.fstat(stream.fileno())
+    except FileNotFoundError:
+        raise Unreadable("no such file") from None
+    except IsADirectoryError:
+        raise Unreadable("it is a folder") from None
+    except PermissionError:
+        raise Unreadable("no permission") from None
+    except OSError as error:
+        raise Unreadable(error.strerror or "an error of the system") from None
+    except ValueError:
+        raise Unreadable("no such file") from None
+    return Source(named(file), stream, Progress(status.st_size if stat.S_ISREG(status.st_mode) else 0))
+
+
+def named(file):
+    """A file's name for messages."""
+    return "standard input" if file == "-" else shown(file, 4096)
+
+
+class Progress:
+    """A line on standard error that says how much is read, where that is a terminal and the work takes over a second."""
+
+    def __init__(self, size):
+        self.size = size
+        self.done = 0
+        self.next = time.monotonic() + 1 if size is not None and sys.stderr is not None and sys.stderr.isatty() else None
+        self.written = False
+
+    def step(self, count):
+        """So many bytes more."""
+        self.done += count
+        if self.next is None or time.monotonic() < self.next:
+            return
+        part = "%d %% read" % (100 * self.done // self.size) if self.size else "%.1f MB read" % (self.done / 1e6)
+        sys.stderr.write("\rzhaqsumir: %s \b" % part)
+        sys.stderr.flush()
+        self.written = True
+        self.next = time.monotonic() + 0.25
+
+    def end(self):
+        """The line goes."""
+        if self.written:
+            sys.stderr.write("\r\033[K")
+            sys.stderr.flush()
+            self.written = False

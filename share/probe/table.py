@@ -1,0 +1,237 @@
+"""CSV: a header with the columns' names, then a row for each sample, its fields parted by commas, semicolons or tabs."""
+import csv
+import re
+from itertools import islice
+from operator import le
+
+from .refusal import Refused, listed, shown
+from .text import WIRES
+
+SEPARATORS = (b",", b";", b"\t")
+LEVELS = {b"0", b"1"}
+UNDEFINED = (b"", b"x", b"z")
+# names of a first column that holds times; libsigrok names it by its unit
+TIMES = re.compile(rb"(?i)time.*|t|s|ms|us|ns|ps|sec|seconds|samples?")
+MOMENT = re.compile(rb"\d{4}-\d\d-\d\d[T ]\d\d:\d\d:\d\d[0-9.,:+Z-]*")     # a date and a time of day
+LEVEL_OF = bytes.maketrans(b"01", b"\0\1")
+
+
+def fields_of(line, separator):
+    """The fields of a line. A field may stand in double quotes; a quote that isn't closed in its line is refused (with no place)."""
+    if b'"' not in line:
+        return [field.strip() for field in line.split(separator)]
+    pattern = re.compile(rb' *(?:"((?:[^"]|"")*)"[ \r]*|([^"%s]*))(%s|\Z)' % (separator, separator))
+    fields = []
+    at = 0
+    while True:
+        match = pattern.match(line, at)
+        if not match:
+            raise Refused("a quote isn't closed, or stands inside a field")
+        fields.append((match[2] if match[1] is None else match[1].replace(b'""', b'"')).strip())
+        at = match.end()
+        if not match[3]:
+            return fields
+
+
+class Table:
+    """A table that is read: where its columns are, and how far it is read."""
+
+    def __init__(self, text, names):
+        self.text, self.names = text, names
+        self.line = 0               # of the line that was last read
+        self.channels = None        # the names in a remark of libsigrok
+        self.separator = self.columns = None
+        self.width = 0
+        self.timed = False          # whether the first column holds times
+        self.time = None
+        self.rows = 0
+
+    # ---- the header ----
+
+    def header(self, line):
+        """A line before the first row: a remark, or the header, or the first row where there is no header."""
+        if not line.strip() or line[:1] in (b";", b"#") or re.fullmatch(rb"META samplerate: \d+\s*", line):
+            remark = re.fullmatch(rb"; *Channels \(\d+/\d+\): *(.*?)\s*", line)
+            self.channels = [name.strip() for name in remark[1].split(b",")] if remark else self.channels
+            return
+        choices = []
+        for separator in SEPARATORS:
+            try:
+                fields = fields_of(line, separator)
+            except Refused as refused:
+                unclosed = refused
+                continue
+            named = self.by_header(fields)
+            choices.append((named or self.by_place(fields), bool(named), len(fields), separator, fields))
+        if not choices:
+            raise unclosed
+        best = max(choices, key=lambda choice: (choice[0] is not None, choice[2]))
+        columns, named, self.width, self.separator, fields = best
+        if columns is None:
+            self.missing(fields)
+        self.columns = columns
+        if not named and all(fields[column] in LEVELS for column in columns.values()):    # there is no header
+            self.row(fields)
+        else:
+            self.timed = bool(TIMES.fullmatch(fields[0])) and 0 not in columns.values()
+
+    def by_header(self, fields):
+        """For each wire the number of its column, where the header has all three names, each once; else None."""
+        if any(fields.count(self.names[wire]) != 1 for wire in WIRES):
+            return None
+        return {wire: fields.index(self.names[wire]) for wire in WIRES}
+
+    def by_place(self, fields):
+        """For each wire the number of its column, by numbers from 1 in place of names, or by libsigrok's remark that names the
+        channels, where the header has their unit, `logic`, or there is no header; else None."""
+        columns = []
+        if all(re.fullmatch(rb"[1-9]\d{0,5}", self.names[wire]) and int(self.names[wire]) <= len(fields) for wire in WIRES):
+            columns.append({wire: int(self.names[wire]) - 1 for wire in WIRES})
+        logic = [place for place, field in enumerate(fields) if field == b"logic"]
+        if not logic and not set(fields) - LEVELS:
+            logic = list(range(len(fields)))
+        if self.channels and len(logic) == len(self.channels) and all(self.channels.count(self.names[wire]) == 1 for wire in WIRES):
+            columns.append({wire: logic[self.channels.index(self.names[wire])] for wire in WIRES})
+        if len(columns) == 2 and columns[0] != columns[1]:
+            raise Refused("the wires' names are numbers of columns and also names of other channels; the channels are: %s"
+                          % listed(self.channels))
+        return columns[0] if columns else None
+
+    def missing(self, fields):
+        """Refuses, and says which column isn't there, or is there twice."""
+        names = [self.names[wire] for wire in WIRES]
+        if all(re.fullmatch(rb"\d{1,6}", name) for name in names):
+            names = [name for name in names if not 1 <= int(name) <= len(fields)]
+            why = "there is no column %s; the columns are: %s"
+        elif any(fields.count(name) > 1 for name in names):
+            names = [name for name in names if fields.count(name) > 1]
+            why = "more than one column is named %s; the header has: %s"
+        else:
+            names = [name for name in names if name not in fields]
+            why = "no column is named %s; the header has: %s"
+            if b"logic" in fields:
+                why += "; columns may be named by their numbers from 1, as in --din 1"
+        raise Refused(why % (shown(names[0]), listed(fields)), self.line)
+
+    # ---- the rows ----
+
+    def plain(self, block):
+        """Takes a block of whole lines at once, where each is a row of the right width, whose levels are 0 or 1 and whose times don't
+        go back. Else it takes nothing, and gives False."""
+        separator = self.separator
+        if not block.endswith(b"\n") or separator != b";" and (block[:1] == b";" or b"\n;" in block):
+            return False
+        block = block.replace(b"\r\n", b"\n").replace(separator + b" ", separator)
+        column = self.quoted(block) if b'"' in block else self.unquoted(block)
+        if column is None:
+            return False
+        samples = count = 0
+        for wire, place in self.columns.items():
+            levels = column(place)
+            count = len(levels)
+            if not {"0", "1"}.issuperset(levels):
+                return False
+            samples += wire * int.from_bytes("".join(levels).encode().translate(LEVEL_OF), "little")
+        if self.timed and not self.moments(column(0)):
+            return False
+        first = self.line + 1
+        self.text.take_all(samples.to_bytes(count, "little"), lambda at: first + at)
+        self.line += count
+        self.rows += count
+        return True
+
+    def unquoted(self, block):
+        """The columns of a block without quotes, as a function of their numbers; None where a row isn't as wide as the header."""
+        marks = block.translate(None, bytes(byte for byte in range(256) if byte not in self.separator + b"\n"))
+        if marks != (self.separator * (self.width - 1) + b"\n") * block.count(b"\n"):
+            return None
+        separator = self.separator.decode()
+        fields = block[:-1].decode("latin-1").replace("\n", separator).split(separator)
+        return lambda place: fields[place::self.width]
+
+    def quoted(self, block):
+        """The same for a block with quotes; None too where a quote isn't closed in its line, or stands inside a field."""
+        lines = block[:-1].decode("latin-1").split("\n")
+        try:
+            rows = list(csv.reader(lines, delimiter=self.separator.decode(), strict=True))
+        except csv.Error:
+            return None
+        if len(rows) != len(lines) or set(map(len, rows)) != {self.width} or '"' in "".join(map("".join, rows)):
+            return None
+        return lambda place: [row[place] for row in rows]
+
+    def moments(self, times):
+        """Whether the times of many rows don't go back."""
+        try:
+            times = list(map(float, times))
+        except ValueError:
+            if set(map(len, times)) != {len(times[0])} or not all(map(MOMENT.fullmatch, map(str.encode, times))):
+                return False
+            times = list(map(str.encode, times))
+        if self.time is not None and (type(self.time) is not type(times[0]) or not self.time <= times[0]):
+            return False
+        if isinstance(self.time, bytes) and len(self.time) != len(times[0]) or not all(map(le, times, islice(times, 1, None))):
+            return False
+        self.time = times[-1]
+        return times[0] == times[0]
+
+    def row(self, fields):
+        """One row."""
+        if len(fields) != self.width:
+            raise Refused("the row has %d fields, and the header %d" % (len(fields), self.width), self.line)
+        if self.timed:
+            self.moment(fields[0])
+        sample = sum(wire * self.level(fields[column], self.names[wire]) for wire, column in self.columns.items())
+        self.text.take(sample, lambda: self.line)
+        self.rows += 1
+
+    def level(self, field, name):
+        """The level in one field."""
+        if field in LEVELS:
+            return int(field)
+        if field.lower() in UNDEFINED:
+            raise Refused("%s is undefined (%s)" % (shown(name), shown(field) or "empty"), self.line)
+        raise Refused("%s has '%s', which is no level" % (shown(name), shown(field)), self.line)
+
+    def moment(self, field):
+        """The time of a row: a number, or a date and a time of day; it isn't before that of the row before."""
+        try:
+            time = float(field if self.separator == b"," else field.replace(b",", b"."))
+        except ValueError:
+            time = field if MOMENT.fullmatch(field) else None
+        if time is None or time != time:
+            raise Refused("'%s' is no time" % shown(field), self.line)
+        if self.time is not None:
+            if isinstance(time, bytes) != isinstance(self.time, bytes) or isinstance(time, bytes) and len(time) != len(self.time):
+                raise Refused("the time '%s' isn't written as the one before it" % shown(field), self.line)
+            if time < self.time:
+                raise Refused("the rows aren't in the order of time: '%s' comes after a later one" % shown(field), self.line)
+        self.time = time
+
+    def take(self, block):
+        """The lines of a block, one by one."""
+        for line in block[:-1].split(b"\n") if block.endswith(b"\n") else block.split(b"\n"):
+            self.line += 1
+            try:
+                if self.columns is None:
+                    self.header(line)
+                elif line.strip() and not (line[:1] == b";" and self.separator != b";"):
+                    self.row(fields_of(line, self.separator))
+            except Refused as refused:
+                raise Refused(refused.why, self.line) from None
+
+
+def read(source, text, names):
+    """Reads a recording; `names` has the wires' names."""
+    table = Table(text, names)
+    for block in source.cut((b"\n",)):
+        while table.columns is None and block:
+            end = block.find(b"\n") + 1 or len(block)
+            table.take(block[:end])
+            block = block[end:]
+        if block and not table.plain(block):
+            table.take(block)
+    if table.columns is None:
+        raise Refused("there is no header with the wires' names", max(table.line, 1))
+    if not table.rows:
+        raise Refused("there is a header and no row", table.line)
