@@ -30,7 +30,7 @@ NAMES = {"din": DIN, "dclk": DCLK, "load": LOAD}
 BITS = {"din-bit": DIN, "dclk-bit": DCLK, "load-bit": LOAD}
 OPTIONS = ("format", "chips", "width", *NAMES, *BITS)
 WIDEST = 64     # bytes of a raw sample
-ZIP, GZIP = b"PK\3\4", b"\x1f\x8b"
+ZIP, GZIP = b"PK\3\4", b"\x1f\x8b\x08"
 
 # ---- what was typed ----
 
@@ -124,8 +124,8 @@ def seen(head):
     return "raw" if b"" < head[:1] < b"\x08" else "csv"
 
 
-def recognised(head, form):
-    """Refuses what is none of the formats, by what it is."""
+def recognised(head, form, anything):
+    """Refuses what is none of the formats, by what it is. Where any bytes are samples, two or three alone tell nothing."""
     kinds = ((b"<SALEAE>", "a Saleae binary export"), (GZIP, "gzip packed by gzip"), (b"\xff\xfe", "text in UTF-16"),
              (b"\xfe\xff", "text in UTF-16"), (b"\xfd7zXZ\0", "packed by xz"), (b"BZh", "packed by bzip2"),
              (b"\x28\xb5\x2f\xfd", "packed by zstd"), (b"7z\xbc\xaf", "a 7z archive"), (ZIP, "a zip"))
@@ -134,7 +134,7 @@ def recognised(head, form):
             raise Refused("it isn't a sigrok session (.sr), which is a zip")
         return
     for start, kind in kinds:
-        if head.startswith(start):
+        if head.startswith(start) and (len(start) > 3 or not anything):
             raise Refused("it is %s; export it as VCD, CSV, raw or a sigrok session" % kind)
     if b"serialization::archive" in head[:64]:
         raise Refused("it is a Saleae capture (.logicdata); export it as VCD or CSV")
@@ -150,14 +150,13 @@ def imported(file, wanted):
         whole = source.progress
         form = told(file, wanted)
         anything = form == "raw" and (wanted.others or (wanted.width or 1) > 1)     # any bytes are samples
-        if source.head.startswith(GZIP) and not anything or file.endswith(".gz"):
+        if source.head.startswith(GZIP) or file.lower().endswith(".gz"):
             source = source.unpacked()
             file = re.sub(r"(?i)\.gz$", "", file)
             form = told(file, wanted)
         if form is None or wanted.form is None and source.head.startswith(ZIP) and not anything:
             form = seen(source.head)
-        if not anything:
-            recognised(source.head, form)
+        recognised(source.head, form, anything)
         wanted.goes_with(form)
         text = Text(wanted.chips or 1)
         more = (wanted.width, wanted.bits, wanted.others) if form == "raw" else (wanted.names,)
@@ -194,6 +193,15 @@ def remarks(text, given):
     return lines
 
 
+def say(line):
+    """To standard error, where that can be written."""
+    try:
+        sys.stderr.write("zhaqsumir: %s\n" % line)
+        sys.stderr.flush()
+    except (AttributeError, OSError):
+        sys.stderr = None
+
+
 def main():
     signal.signal(signal.SIGPIPE, signal.SIG_DFL)
     signal.signal(signal.SIGINT, signal.SIG_DFL)
@@ -202,7 +210,7 @@ def main():
         given, file = arguments(sys.argv[1:])
         text, said = imported(file, Wanted(given))
         for line in said:
-            sys.stderr.write("zhaqsumir: %s: %s\n" % (named(file), line))
+            say("%s: %s" % (named(file), line))
         sys.stdout.write(text.lines())
         sys.stdout.close()
         return
@@ -217,8 +225,9 @@ def main():
         why = "the output can't be written: %s" % error.strerror
     except MemoryError:
         why = "%s can't be read: there is not enough memory" % named(file)
-    sys.stderr.write("zhaqsumir: %s\n" % why)
-    sys.stderr.flush()
+    except Exception as error:      # nothing of the kind is known
+        why = "%s can't be read: a fault of import itself (%s)" % (named(file), shown(repr(error)))
+    say(why)
     os._exit(2)
 
 

@@ -23,17 +23,21 @@ class Words:
         self.block = b""
         self.lines = 0          # before this block
         self.count = 0          # of its words
+        self.torn = False       # whether the file ends inside a word, for all one knows
         self.words = iter(())
 
     def more(self):
         """The next block's words, or None."""
         self.lines += self.block.count(b"\n")
+        if self.torn:
+            raise Refused("the file ends inside a line: it is cut off", self.lines + 1)
         self.block = next(self.blocks, b"")
         if not self.block:
             return None
-        if not self.block[-1:].isspace():
-            raise Refused("the file ends inside a line: it is cut off", self.lines + self.block.count(b"\n") + 1)
         words = self.block.split()
+        self.torn = not self.block[-1:].isspace()
+        if self.torn:
+            words.pop()
         self.count = len(words)
         self.words = iter(words)
         return self.words
