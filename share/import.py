@@ -136,6 +136,8 @@ def recognised(head, form, anything):
     for start, kind in kinds:
         if head.startswith(start) and (len(start) > 3 or not anything):
             raise Refused("it is %s; export it as VCD, CSV, raw or a sigrok session" % kind)
+    if form == "raw" and head.startswith(b"META samplerate: "):
+        raise Refused("it begins with a line of text that sigrok-cli wrote, META samplerate; take that off, or import a session (.sr)")
     if b"serialization::archive" in head[:64]:
         raise Refused("it is a Saleae capture (.logicdata); export it as VCD or CSV")
     if form in ("vcd", "csv") and b"\0" in head:

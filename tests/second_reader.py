@@ -91,7 +91,7 @@ def table(data, names):
     head = cells(lines[0], separator)
     rows = [cells(line, separator) for line in lines[header > 0:] if line.strip() and (separator == ";" or line[0] != ";")]
     sure(rows)
-    timed = header and 0 not in columns and re.match(r"(?i)time|(t|[munp]?s|sec|seconds|samples?)$", head[0])
+    timed = header and 0 not in columns and re.match(r"(?i)time|(t|sec|seconds?|samples?)$", head[0])
     times = []
     samples = []
     for row in rows:

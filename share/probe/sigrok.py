@@ -31,8 +31,9 @@ class Samples:
 
 def read(source, text, names):
     """Reads a session; `names` has the wires' names."""
+    file = source.seekable()
     try:
-        with zipfile.ZipFile(source.seekable()) as archive:
+        with zipfile.ZipFile(file) as archive:
             files = {info.filename: info for info in archive.infolist()}
             if "metadata" not in files or "version" not in files:
                 kind = "a Saleae capture (.sal); export it as CSV" if "meta.json" in files else "a zip, and no sigrok session (.sr)"

@@ -50,10 +50,13 @@ class Source:
             self.stream.seek(0)
             return self.stream
         import tempfile     # here alone: it takes long to load
-        copy = tempfile.TemporaryFile()
-        for block in self.blocks():
-            copy.write(block)
-        copy.seek(0)
+        try:
+            copy = tempfile.TemporaryFile()
+            for block in self.blocks():
+                copy.write(block)
+            copy.seek(0)
+        except OSError as error:
+            raise Unreadable("it can't be copied to a temporary file: %s" % error.strerror) from None
         return copy
 
     def blocks(self):

@@ -10,8 +10,9 @@ from .text import WIRES
 SEPARATORS = (b",", b";", b"\t")
 LEVELS = {b"0", b"1"}
 UNDEFINED = (b"", b"x", b"z")
-# names of a first column that holds times; libsigrok names it by its unit
-TIMES = re.compile(rb"(?i)time.*|t|s|ms|us|ns|ps|sec|seconds|samples?")
+# names of a first column that holds times; libsigrok may name it by its unit, as it does the others, `logic`
+TIMES = re.compile(rb"(?i)time.*|t|sec|seconds?|samples?")
+UNITS = re.compile(rb"[munp]?s")
 MOMENT = re.compile(rb"\d{4}-\d\d-\d\d[T ]\d\d:\d\d:\d\d[0-9.,:+Z-]*")     # a date and a time of day
 LEVEL_OF = bytes.maketrans(b"01", b"\0\1")
 
@@ -73,7 +74,8 @@ class Table:
         if not named and all(fields[column] in LEVELS for column in columns.values()):    # there is no header
             self.row(fields)
         else:
-            self.timed = bool(TIMES.fullmatch(fields[0])) and 0 not in columns.values()
+            times = TIMES.fullmatch(fields[0]) or b"logic" in fields and UNITS.fullmatch(fields[0])
+            self.timed = bool(times) and 0 not in columns.values()
 
     def by_header(self, fields):
         """For each wire the number of its column, where the header has all three names, each once; else None."""

@@ -80,10 +80,9 @@ class Text:
 
     def rows_for(self):
         """For how many chips the rows are: k, where always 12 k clocks come between LOAD rises, or 12 k and a readout's seven; else 0.
-        The recording may begin inside a row, so there may be fewer before the first LOAD rise."""
+        Those before the first LOAD rise count only where there is no other: the recording may begin inside a row."""
         between = set(self.stretches[1:] or self.stretches)
         chips = {clocks // WORD for clocks in between}
         if len(chips) != 1 or {clocks % WORD for clocks in between} - {0, READ_OUT}:
             return 0
-        (count,) = chips
-        return count if self.stretches[0] <= WORD * count + READ_OUT else 0
+        return chips.pop()
