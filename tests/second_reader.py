@@ -41,8 +41,7 @@ def session(data, names):
     """A session of sigrok."""
     with zipfile.ZipFile(io.BytesIO(data)) as archive:
         sure(archive.testzip() is None)
-        wanted = ("metadata",)
-        metadata = archive.read(wanted[0]).decode()
+        metadata = archive.read("metadata").decode()
         sure(metadata.count("[device 1]\n") == 1)
         values = {}
         for line in metadata.split("[device 1]\n")[1].split("\n"):
@@ -138,7 +137,7 @@ def dump(data, names):
     words = re.findall(r"[^ \n\t\r\v\f]+", text)
     if words[:1] == ["META"]:
         words = words[3:]
-    at = words.index("$enddefinitions") if "$enddefinitions" in words else sure(False)
+    at = words.index("$enddefinitions")
     wires, sizes = definitions(words[:at], names)
     at = words.index("$end", at) + 1
     groups = [[]]           # the changes of each time
@@ -223,14 +222,13 @@ def definitions(words, names):
                 name = parts[1]
             else:
                 numbers = list(range(size - 1, -1, -1))
-            paths = [".".join(scopes[start:] + [name]) for start in range(len(scopes) + 1)]
+            path = "." + ".".join(scopes + [name])
             for place, wanted in enumerate(names):
-                ends = ["." + wanted == ("." + paths[0])[-len(wanted) - 1:]]
-                if any(ends):
+                if path.endswith("." + wanted):
                     sure(size == 1)
                     found[place].add((identifier, 0))
                 for bit, number in enumerate(reversed(numbers)):
-                    if len(numbers) == size and ("." + paths[0] + "[%d]" % number).endswith("." + wanted.replace(" [", "[")):
+                    if len(numbers) == size and (path + "[%d]" % number).endswith("." + wanted.replace(" [", "[")):
                         found[place].add((identifier, bit))
     sure(all(len(each) == 1 for each in found))
     return [next(iter(each)) for each in found], sizes
