@@ -2,23 +2,32 @@
 -- Assumes nothing.
 use mathlib.Core.Path.{_≡_, refl}
 use Prim.Native.Nat.{ℕ}
-use lib.Dec.{eqb}
-use Rattle.base.specs.Pick.{pick}
+use mathlib.Core.List.{List, [], _∷_}
+use lib.ListN.{getD}
 use Rattle.base.specs.Refusals.{numberOf, placeOf}
 use Rattle.base.specs.declared.Refusal.{Refusal}
 use Rattle.base.specs.declared.Refusal.the-variants.{Sample, ScanChip, ChipCount, PartRow, Rows, Unlisted, Keypad, Room, Field, Line, Text, Record}
 
+-- the refusals by their numbers, from 0 up; there is none with the number 0, and the last stands for every number past it
+abbrev by-number : List (ℕ → Refusal)
+by-number =
+    (λ place. Record)
+    ∷ Sample
+    ∷ (λ place. ScanChip)
+    ∷ (λ place. ChipCount)
+    ∷ (λ place. PartRow)
+    ∷ (λ place. Rows)
+    ∷ Unlisted
+    ∷ Keypad
+    ∷ (λ place. Room)
+    ∷ (λ place. Field)
+    ∷ Line
+    ∷ (λ place. Text)
+    ∷ []
+
 -- the refusal with a number and a place
 pub refusalOf : ℕ → ℕ → Refusal
-refusalOf number place =
-    pick (eqb number 1) (Sample place)
-    (pick (eqb number 2) ScanChip
-    (pick (eqb number 3) ChipCount
-    (pick (eqb number 4) PartRow
-    (pick (eqb number 5) Rows
-    (pick (eqb number 6) (Unlisted place)
-    (pick (eqb number 7) (Keypad place)
-    (pick (eqb number 8) Room (pick (eqb number 9) Field (pick (eqb number 10) (Line place) (pick (eqb number 11) Text Record))))))))))
+refusalOf number place = getD by-number number (λ place. Record) place
 
 pub refusal-back : (e : Refusal) → refusalOf (numberOf e) (placeOf e) ≡ e
 unfolding refusalOf

@@ -8,7 +8,7 @@ use native.Mathlib.Nat.{not-suc-le-zero, eq-or-lt-of-le, le-of-suc-le-suc}
 use lib.Arith.{lt-of-le-ne}
 use lib.Dec.{T, leb, ltb, eqb, eqb→eq}
 use borrow.Author.Tests.{leb-true, leb-false, eqb-true, eqb-false, eq-eqb, ne-eqb, lt-ltb, le-ltb, le-leb, lt-leb}
-use Rattle.base.specs.Below.{below}
+use Rattle.base.specs.Below.{below, EachBelow}
 
 -- a test that holds is true
 pub is-true : (b : Bool) → T b → b ≡ true
@@ -34,6 +34,12 @@ at-below f (suc n) t k h =
     ⊎-elim (λ e. subst (λ (m : ℕ). T (f m)) (sym e) (and-left (f n) (below f n) t))
     (λ l. at-below f n (and-right (f n) (below f n) t) k l)
     (eq-or-lt-of-le (le-of-suc-le-suc h))
+
+-- what is claimed of each number below n
+pub each-below {ℓ} : (P : ℕ → Type ℓ) (n : ℕ) → EachBelow P n → (k : ℕ) → k < n → P k
+each-below P zero all k h = absurd (not-suc-le-zero h)
+each-below P (suc n) all k h =
+    ⊎-elim (λ e. subst P (sym e) (all .0)) (λ l. each-below P n (all .1) k l) (eq-or-lt-of-le (le-of-suc-le-suc h))
 
 -- two functions that are seen to agree below n
 pub eq-below : (f g : ℕ → ℕ) (n : ℕ) → T (below (λ k. eqb (f k) (g k)) n) → (k : ℕ) → k < n → f k ≡ g k

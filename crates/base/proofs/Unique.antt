@@ -10,6 +10,8 @@ use Rattle.base.specs.declared.Verdict.{Verdict}
 use Rattle.base.specs.declared.Verdict.the-variants as Verdicts
 use Rattle.base.proofs.Refusals.{refusalOf, refusal-back}
 use Rattle.base.proofs.field
+use Rattle.base.proofs.number
+use Rattle.base.proofs.place
 use Rattle.base.proofs.digit_of
 
 -- a contract `r ≡ x`
@@ -41,3 +43,9 @@ field-unique κs a x y last last′ p q = (same-answer p q, refl)
 
 pub digit-of-unique : AllowsOne digit_of.Kinds.ps digit_of.Kinds.r digit_of.Reads.Learnt
 digit-of-unique κs a x y last last′ p q = (same-answer p q, refl)
+
+pub number-unique : AllowsOne number.Kinds.ps number.Kinds.r number.Reads.Learnt
+number-unique κs a x y last last′ p q = (same-answer p q, refl)
+
+pub place-unique : AllowsOne place.Kinds.ps place.Kinds.r place.Reads.Learnt
+place-unique κs a x y last last′ p q = (same-answer p q, refl)

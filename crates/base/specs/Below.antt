@@ -14,3 +14,8 @@ below f (suc n) = f n && below f n
 abbrev pub count : (ℕ → Bool) → ℕ → ℕ
 count f zero = 0
 count f (suc n) = digit (f n) + count f n
+
+-- a claim of each number below n
+abbrev pub EachBelow {ℓ} : (ℕ → Type ℓ) → ℕ → Type ℓ
+EachBelow P zero = Unit
+EachBelow P (suc n) = P n × EachBelow P n

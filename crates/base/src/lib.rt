@@ -2,6 +2,7 @@
 // masks. The two functions are inner ones, for the other crates; users have no entry here. Nothing here has a `requires`.
 ghost use mathlib.Core.Path.{_≡_};
 ghost use Rattle.base.specs.Bits.{cut, digit};
+ghost use Rattle.base.specs.Refusals.{numberOf, placeOf};
 
 // Why an input was refused, with the place that document 01 names, where it names one.
 pub enum Refusal {
@@ -35,6 +36,46 @@ pub enum Refusal {
 pub enum Verdict {
     Done,
     Refused(Refusal),
+}
+
+// Document 01's number of a refusal.
+pub fn number(e: Refusal) -> u64
+    ensures { λ r. ⌜ r ≡ numberOf e ⌝ }
+{
+    match e {
+        Refusal::Sample(_) => 1,
+        Refusal::ScanChip => 2,
+        Refusal::ChipCount => 3,
+        Refusal::PartRow => 4,
+        Refusal::Rows => 5,
+        Refusal::Unlisted(_) => 6,
+        Refusal::Keypad(_) => 7,
+        Refusal::Room => 8,
+        Refusal::Field => 9,
+        Refusal::Line(_) => 10,
+        Refusal::Text => 11,
+        Refusal::Record => 12,
+    }
+}
+
+// The place that a refusal names, or 0.
+pub fn place(e: Refusal) -> u64
+    ensures { λ r. ⌜ r ≡ placeOf e ⌝ }
+{
+    match e {
+        Refusal::Sample(at) => at,
+        Refusal::ScanChip => 0,
+        Refusal::ChipCount => 0,
+        Refusal::PartRow => 0,
+        Refusal::Rows => 0,
+        Refusal::Unlisted(at) => at,
+        Refusal::Keypad(at) => at,
+        Refusal::Room => 0,
+        Refusal::Field => 0,
+        Refusal::Line(at) => at,
+        Refusal::Text => 0,
+        Refusal::Record => 0,
+    }
 }
 
 // The field of `width` bits that starts at bit `at` of a number.

@@ -18,7 +18,7 @@ use Rattle.capture.specs.Lines.{Line, linesOf}
 use Rattle.capture.specs.Replay.{endOf, outputOf}
 use Rattle.zhaqsumir.specs.Commands.{commandFrom}
 use Rattle.zhaqsumir.specs.Numbers.{numberIn, placeIn, numberOr0, kindAndFields, isRise, risePlace, encodedBy, decodeNumbers, encodeNumbers, findNumbers, WritesNumbers, ReplaysNumbers}
-use Rattle.zhaqsumir.specs.Ranges.{ranges, within, inRange}
+use Rattle.word.specs.Ranges.{ranges, within, inRange}
 use Rattle.zhaqsumir.proofs.Ranges.{Tells, a-word, nine, encode-ranges}
 use Rattle.demands.specs.Exact.{Row, row, each, None, First, Exactly, SaysExactly, NoneOf}
 use Rattle.demands.specs.Refusals.{Above, NumbersOutOfRange, BufferShort}

@@ -14,7 +14,7 @@ use Rattle.chip.specs.declared.Chip.{Chip}
 use Rattle.chip.specs.Record.{none}
 use Rattle.chain.specs.declared.Chain.{Chain}
 use Rattle.chain.specs.Entries.{chipAt}
-use Rattle.zhaqsumir.specs.Ranges.{ranges}
+use Rattle.word.specs.Ranges.{ranges}
 
 -- 1: a sample is above 7
 abbrev pub SampleAbove7 : ℕ → Type 0

@@ -7,6 +7,7 @@ use lib.Dec.{eqb, leb}
 use Rattle.base.specs.Pick.{pick}
 use Rattle.base.specs.Bits.{cut, bit, digit}
 use Rattle.base.specs.Refusals.{Told, done, refused}
+use Rattle.word.specs.Ranges.{mostOf}
 use Rattle.word.specs.declared.Command.{Command}
 use Rattle.word.specs.declared.Command.the-variants.{NoOperation, BarLevel, SegmentClear, SegmentSet, Reset, Sleep, ShiftLeft, ShiftRight, RotateLeft, RotateRight, CustomCharacter, SystemParameters, DisplayParameters, BlinkByte, ReadKey, LoadDigit}
 
@@ -37,7 +38,7 @@ displayBits w = pick (eqb (cut w 0 4) 0) (done (DisplayParameters (record { mode
 abbrev pub table : List Row
 table =
     row 0b0000 8 (λ w. done NoOperation)
-    ∷ row 0b00010 7 (λ w. pick (leb (cut w 0 7) 64) (done (BarLevel (cut w 0 7))) unlisted)
+    ∷ row 0b00010 7 (λ w. pick (leb (cut w 0 7) (mostOf 1 0)) (done (BarLevel (cut w 0 7))) unlisted)
     ∷ row 0b000110 6 (λ w. done (SegmentClear (cut w 0 6)))
     ∷ row 0b000111 6 (λ w. done (SegmentSet (cut w 0 6)))
     ∷ row 0b001000000001 0 (λ w. done Reset)
@@ -83,24 +84,24 @@ wordOf (BlinkByte byte) = 0b011000000000 + byte
 wordOf ReadKey = 0b011100000000
 wordOf (LoadDigit dig byte) = 0b100000000000 + 256 * dig + byte
 
--- no field is out of range
+-- no field is out of range, by the table of ranges; a bit can't be
 abbrev pub legal : Command → Bool
 legal NoOperation = true
-legal (BarLevel level) = leb level 64
-legal (SegmentClear addr) = leb addr 63
-legal (SegmentSet addr) = leb addr 63
+legal (BarLevel level) = leb level (mostOf 1 0)
+legal (SegmentClear addr) = leb addr (mostOf 2 0)
+legal (SegmentSet addr) = leb addr (mostOf 3 0)
 legal Reset = true
 legal Sleep = true
 legal ShiftLeft = true
 legal ShiftRight = true
 legal RotateLeft = true
 legal RotateRight = true
-legal (CustomCharacter shape) = leb shape 127
+legal (CustomCharacter shape) = leb shape (mostOf 10 0)
 legal (SystemParameters s) = true
-legal (DisplayParameters d) = leb (d .limit) 7
-legal (BlinkByte byte) = leb byte 255
+legal (DisplayParameters d) = leb (d .limit) (mostOf 12 1)
+legal (BlinkByte byte) = leb byte (mostOf 13 0)
 legal ReadKey = true
-legal (LoadDigit dig byte) = leb dig 7 && leb byte 255
+legal (LoadDigit dig byte) = leb dig (mostOf 15 0) && leb byte (mostOf 15 1)
 
 -- the word of a legal command, or refusal 9
 unfoldable pub encodedOf : Command → Told ℕ

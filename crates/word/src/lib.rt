@@ -10,6 +10,13 @@ ghost use Rattle.base.specs.Refusals.{done, refused};
 ghost use Rattle.word.specs.Words.{decodedOf, encodedOf, wordOf, legal};
 ghost use Rattle.word.specs.Answers.{decodedTells, encodedTells};
 
+// The most of each field that has a range narrower than its type: a bar level, a segment's address, a custom character, LIMIT, DIG.
+pub const MOST_LEVEL: u8 = 64;
+pub const MOST_ADDRESS: u8 = 63;
+pub const MOST_SHAPE: u8 = 127;
+pub const MOST_LIMIT: u8 = 7;
+pub const MOST_DIGIT: u8 = 7;
+
 // System parameters: INTM SSPD DPLR KEYB DISP.
 pub struct System {
     pub intm: bool,
@@ -86,7 +93,7 @@ fn bar_or_segment(word: u16) -> Decoded
 {
     if base::field(word, 7, 1) == 0 {
         let level = base::field(word, 0, 7) as u8;
-        if level > 64 {
+        if level > MOST_LEVEL {
             return Decoded::Refused(Refusal::Unlisted(0));
         }
         return Decoded::Means(Command::BarLevel(level));
@@ -168,16 +175,16 @@ pub fn encode(command: Command) -> Encoded
 {
     match command {
         Command::NoOperation => Encoded::Word(0b000000000000),
-        Command::BarLevel(level) => leading(0b000100000000, level, 64),
-        Command::SegmentClear(addr) => leading(0b000110000000, addr, 63),
-        Command::SegmentSet(addr) => leading(0b000111000000, addr, 63),
+        Command::BarLevel(level) => leading(0b000100000000, level, MOST_LEVEL),
+        Command::SegmentClear(addr) => leading(0b000110000000, addr, MOST_ADDRESS),
+        Command::SegmentSet(addr) => leading(0b000111000000, addr, MOST_ADDRESS),
         Command::Reset => Encoded::Word(0b001000000001),
         Command::Sleep => Encoded::Word(0b001000000010),
         Command::ShiftLeft => Encoded::Word(0b001100000000),
         Command::ShiftRight => Encoded::Word(0b001100000010),
         Command::RotateLeft => Encoded::Word(0b001100000001),
         Command::RotateRight => Encoded::Word(0b001100000011),
-        Command::CustomCharacter(shape) => leading(0b001110000000, shape, 127),
+        Command::CustomCharacter(shape) => leading(0b001110000000, shape, MOST_SHAPE),
         Command::SystemParameters(s) => Encoded::Word(system_word(s)),
         Command::DisplayParameters(d) => display_word(d),
         Command::BlinkByte(byte) => leading(0b011000000000, byte, 255),
@@ -211,7 +218,7 @@ fn system_word(s: System) -> u16
 fn display_word(d: Display) -> Encoded
     ensures { λ r. ⌜ encodedTells r ≡ encodedOf (Command.DisplayParameters d) ⌝ }
 {
-    if d.limit > 7 {
+    if d.limit > MOST_LIMIT {
         return Encoded::Refused(Refusal::Field);
     }
     Encoded::Word(0b010100000000 + 128 * base::digit_of(d.mode) + 16 * (d.limit as u16))
@@ -220,7 +227,7 @@ fn display_word(d: Display) -> Encoded
 fn digit_word(digit: u8, byte: u8) -> Encoded
     ensures { λ r. ⌜ encodedTells r ≡ encodedOf (Command.LoadDigit digit byte) ⌝ }
 {
-    if digit > 7 {
+    if digit > MOST_DIGIT {
         return Encoded::Refused(Refusal::Field);
     }
     Encoded::Word(0b100000000000 + 256 * (digit as u16) + byte as u16)

@@ -27,32 +27,29 @@ digit-bit false = refl
 digit-most : (b : Bool) → digit b ≤ 1
 digit-most b = omega (arith, digit-lt b)
 
-small : {most : ℕ} (n : ℕ) → most ≤ 255 → T (leb n most) → n ≤ 255
-small {most} n h t = let l = leb→le n most t in omega arith
-
 pub numbers-back : (c : Command) → T (legal c) → commandIn (numbersOf c) ≡ done c
 unfolding commandFrom
 numbers-back NoOperation t = refl
-numbers-back (BarLevel level) t = sym (fits-in (small level (omega arith) t) refl)
-numbers-back (SegmentClear addr) t = sym (fits-in (small addr (omega arith) t) refl)
-numbers-back (SegmentSet addr) t = sym (fits-in (small addr (omega arith) t) refl)
+numbers-back (BarLevel level) t = sym (fits-in (leb→le level _ t) refl)
+numbers-back (SegmentClear addr) t = sym (fits-in (leb→le addr _ t) refl)
+numbers-back (SegmentSet addr) t = sym (fits-in (leb→le addr _ t) refl)
 numbers-back Reset t = refl
 numbers-back Sleep t = refl
 numbers-back ShiftLeft t = refl
 numbers-back ShiftRight t = refl
 numbers-back RotateLeft t = refl
 numbers-back RotateRight t = refl
-numbers-back (CustomCharacter shape) t = sym (fits-in (small shape (omega arith) t) refl)
+numbers-back (CustomCharacter shape) t = sym (fits-in (leb→le shape _ t) refl)
 numbers-back (SystemParameters s) t =
     sym (fits-in (digit-most (s .intm)) (fits-in (digit-most (s .sspd)) (fits-in (digit-most (s .dplr)) (fits-in (digit-most (s .keyb)) (fits-in (digit-most (s .disp)) refl)))))
     ∙ (λ i. done (SystemParameters (record { intm = digit-bit (s .intm) i; sspd = digit-bit (s .sspd) i; dplr = digit-bit (s .dplr) i; keyb = digit-bit (s .keyb) i; disp = digit-bit (s .disp) i })))
 numbers-back (DisplayParameters d) t =
-    sym (fits-in (digit-most (d .mode)) (fits-in (small (d .limit) (omega arith) t) refl))
+    sym (fits-in (digit-most (d .mode)) (fits-in (leb→le (d .limit) 7 t) refl))
     ∙ (λ i. done (DisplayParameters (record { mode = digit-bit (d .mode) i; limit = d .limit })))
-numbers-back (BlinkByte byte) t = sym (fits-in (small byte (omega arith) t) refl)
+numbers-back (BlinkByte byte) t = sym (fits-in (leb→le byte _ t) refl)
 numbers-back ReadKey t = refl
 numbers-back (LoadDigit dig byte) t =
-    sym (fits-in (small dig (omega arith) (and-left (leb dig 7) (leb byte 255) t)) (fits-in (small byte (omega arith) (and-right (leb dig 7) (leb byte 255) t)) refl))
+    sym (fits-in (leb→le dig 7 (and-left (leb dig 7) (leb byte 255) t)) (fits-in (leb→le byte 255 (and-right (leb dig 7) (leb byte 255) t)) refl))
 
 pub encode-decoded : (w : ℕ) (c : Command) → decodedOf w ≡ done c → encodeNumbers (numbersOf c) ≡ 0 ∷ 0 ∷ plain w ∷ []
 encode-decoded w c e =

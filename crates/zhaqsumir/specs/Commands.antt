@@ -7,6 +7,7 @@ use lib.ListN.{getD}
 use Rattle.base.specs.Bits.{digit}
 use Rattle.base.specs.Pick.{pick}
 use Rattle.base.specs.Refusals.{Told, done, refused}
+use Rattle.word.specs.Ranges.{mostOf}
 use Rattle.word.specs.declared.Command.{Command}
 use Rattle.word.specs.declared.Command.the-variants.{NoOperation, BarLevel, SegmentClear, SegmentSet, Reset, Sleep, ShiftLeft, ShiftRight, RotateLeft, RotateRight, CustomCharacter, SystemParameters, DisplayParameters, BlinkByte, ReadKey, LoadDigit}
 use Rattle.zhaqsumir.specs.declared.commands.Given.{Given}
@@ -35,51 +36,59 @@ numbersOf (BlinkByte byte) = six 13 byte 0 0 0 0
 numbersOf ReadKey = six 14 0 0 0 0 0
 numbersOf (LoadDigit dig byte) = six 15 dig byte 0 0 0
 
--- what is made of a number that the command can hold, at most 1 for a bit and 255 for a byte; refusal 9 for another. A field's own
--- range is `legal`, in `encodedOf`; both together: specs/Ranges.antt
+-- what is made of a number that is at most so large; refusal 9 for another
 abbrev pub fits : ℕ → ℕ → Told Command → Told Command
 fits most n made = pick (leb n most) made (refused 9 0)
 
--- a kind with one field, a byte
-abbrev pub oneByte : (ℕ → Command) → ℕ → Told Command
-oneByte kind a = fits 255 a (done (kind a))
+-- a kind with one field, in the range that `word` has for it
+abbrev pub oneField : ℕ → (ℕ → Command) → ℕ → Told Command
+oneField kind command a = fits (mostOf kind 0) a (done (command a))
 
 -- system parameters: five bits
 abbrev pub systemFrom : ℕ → ℕ → ℕ → ℕ → ℕ → Told Command
 systemFrom a b c d e =
-    fits 1 a
-    (fits 1 b
-    (fits 1 c
-    (fits 1 d
-    (fits 1 e (done (SystemParameters (record { intm = eqb a 1; sspd = eqb b 1; dplr = eqb c 1; keyb = eqb d 1; disp = eqb e 1 })))))))
+    fits (mostOf 11 0) a
+    (fits (mostOf 11 1) b
+    (fits (mostOf 11 2) c
+    (fits (mostOf 11 3) d
+    (fits (mostOf 11 4) e (done (SystemParameters (record { intm = eqb a 1; sspd = eqb b 1; dplr = eqb c 1; keyb = eqb d 1; disp = eqb e 1 })))))))
 
 -- display parameters: a bit, and a limit
 abbrev pub displayFrom : ℕ → ℕ → Told Command
-displayFrom a b = fits 1 a (fits 255 b (done (DisplayParameters (record { mode = eqb a 1; limit = b }))))
+displayFrom a b = fits (mostOf 12 0) a (fits (mostOf 12 1) b (done (DisplayParameters (record { mode = eqb a 1; limit = b }))))
 
 -- load digit: a digit and a byte
 abbrev pub digitFrom : ℕ → ℕ → Told Command
-digitFrom a b = fits 255 a (fits 255 b (done (LoadDigit a b)))
+digitFrom a b = fits (mostOf 15 0) a (fits (mostOf 15 1) b (done (LoadDigit a b)))
 
--- the command of a kind and five fields, of which those that the kind lacks are not looked at; refusal 9 where there is no such
--- kind, or a field doesn't fit
+-- what five fields make a command of
+abbrev Fields : Type 0
+Fields = ℕ → ℕ → ℕ → ℕ → ℕ → Told Command
+
+-- the kinds, from 0 in the order of document 01's table; a field that a kind lacks is not looked at
+abbrev pub kinds : List Fields
+kinds =
+    (λ a b c d e. done NoOperation)
+    ∷ (λ a b c d e. oneField 1 BarLevel a)
+    ∷ (λ a b c d e. oneField 2 SegmentClear a)
+    ∷ (λ a b c d e. oneField 3 SegmentSet a)
+    ∷ (λ a b c d e. done Reset)
+    ∷ (λ a b c d e. done Sleep)
+    ∷ (λ a b c d e. done ShiftLeft)
+    ∷ (λ a b c d e. done ShiftRight)
+    ∷ (λ a b c d e. done RotateLeft)
+    ∷ (λ a b c d e. done RotateRight)
+    ∷ (λ a b c d e. oneField 10 CustomCharacter a)
+    ∷ (λ a b c d e. systemFrom a b c d e)
+    ∷ (λ a b c d e. displayFrom a b)
+    ∷ (λ a b c d e. oneField 13 BlinkByte a)
+    ∷ (λ a b c d e. done ReadKey)
+    ∷ (λ a b c d e. digitFrom a b)
+    ∷ []
+
+-- the command of a kind and five fields; refusal 9 where there is no such kind, or a field is out of range
 unfoldable pub commandFrom : ℕ → ℕ → ℕ → ℕ → ℕ → ℕ → Told Command
-commandFrom kind a b c d e =
-    pick (eqb kind 0) (done NoOperation)
-    (pick (eqb kind 1) (oneByte BarLevel a)
-    (pick (eqb kind 2) (oneByte SegmentClear a)
-    (pick (eqb kind 3) (oneByte SegmentSet a)
-    (pick (eqb kind 4) (done Reset)
-    (pick (eqb kind 5) (done Sleep)
-    (pick (eqb kind 6) (done ShiftLeft)
-    (pick (eqb kind 7) (done ShiftRight)
-    (pick (eqb kind 8) (done RotateLeft)
-    (pick (eqb kind 9) (done RotateRight)
-    (pick (eqb kind 10) (oneByte CustomCharacter a)
-    (pick (eqb kind 11) (systemFrom a b c d e)
-    (pick (eqb kind 12) (displayFrom a b)
-    (pick (eqb kind 13) (oneByte BlinkByte a)
-    (pick (eqb kind 14) (done ReadKey) (pick (eqb kind 15) (digitFrom a b) (refused 9 0))))))))))))))))
+commandFrom kind a b c d e = getD kinds kind (λ a b c d e. refused 9 0) a b c d e
 
 -- the command of six numbers
 abbrev pub commandIn : List ℕ → Told Command

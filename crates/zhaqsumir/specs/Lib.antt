@@ -1,3 +1,2 @@
 pub mod Commands
 pub mod Numbers
-pub mod Ranges

@@ -9,7 +9,7 @@ ghost use Rattle.base.specs.Bits.{digit};
 ghost use Rattle.base.specs.Refusals.{done};
 ghost use Rattle.zhaqsumir.specs.Commands as C;
 
-// A command of six numbers; refused where there is no such kind, or a field doesn't fit.
+// A command of six numbers; refused where there is no such kind, or a field is out of range.
 pub(crate) enum Given {
     Is(Command),
     Refused,
@@ -90,7 +90,7 @@ fn display_from(a: u64, b: u64) -> Given
     if a > 1 {
         return Given::Refused;
     }
-    if b > 255 {
+    if b > word::MOST_LIMIT as u64 {
         return Given::Refused;
     }
     Given::Is(Command::DisplayParameters(Display {
@@ -103,7 +103,7 @@ fn display_from(a: u64, b: u64) -> Given
 fn digit_from(a: u64, b: u64) -> Given
     ensures { λ r. ⌜ C.givenTells r ≡ C.digitFrom a b ⌝ }
 {
-    if a > 255 {
+    if a > word::MOST_DIGIT as u64 {
         return Given::Refused;
     }
     if b > 255 {
@@ -122,11 +122,11 @@ fn low(a: u64) -> u8
     (a % 256) as u8
 }
 
-// A command whose one field is a byte, and the number given for it.
-fn one_byte(a: u64, command: Command) -> Given
-    ensures { λ r. ⌜ C.givenTells r ≡ C.fits 255 a (done command) ⌝ }
+// A command with one field, the number given for it, and the most that it may be.
+fn one_field(a: u64, most: u8, command: Command) -> Given
+    ensures { λ r. ⌜ C.givenTells r ≡ C.fits most a (done command) ⌝ }
 {
-    if a > 255 {
+    if a > most as u64 {
         return Given::Refused;
     }
     Given::Is(command)
@@ -138,19 +138,19 @@ pub(crate) fn command_from(kind: u64, a: u64, b: u64, c: u64, d: u64, e: u64) ->
 {
     match kind {
         0 => Given::Is(Command::NoOperation),
-        1 => one_byte(a, Command::BarLevel(low(a))),
-        2 => one_byte(a, Command::SegmentClear(low(a))),
-        3 => one_byte(a, Command::SegmentSet(low(a))),
+        1 => one_field(a, word::MOST_LEVEL, Command::BarLevel(low(a))),
+        2 => one_field(a, word::MOST_ADDRESS, Command::SegmentClear(low(a))),
+        3 => one_field(a, word::MOST_ADDRESS, Command::SegmentSet(low(a))),
         4 => Given::Is(Command::Reset),
         5 => Given::Is(Command::Sleep),
         6 => Given::Is(Command::ShiftLeft),
         7 => Given::Is(Command::ShiftRight),
         8 => Given::Is(Command::RotateLeft),
         9 => Given::Is(Command::RotateRight),
-        10 => one_byte(a, Command::CustomCharacter(low(a))),
+        10 => one_field(a, word::MOST_SHAPE, Command::CustomCharacter(low(a))),
         11 => system_from(a, b, c, d, e),
         12 => display_from(a, b),
-        13 => one_byte(a, Command::BlinkByte(low(a))),
+        13 => one_field(a, 255, Command::BlinkByte(low(a))),
         14 => Given::Is(Command::ReadKey),
         15 => digit_from(a, b),
         _ => Given::Refused,

@@ -14,52 +14,12 @@ use word::Decoded;
 use word::Encoded;
 use writer::Written;
 ghost use mathlib.Core.Path.{_≡_};
-ghost use Rattle.base.specs.Refusals.{numberOf, placeOf, verdictTells};
+ghost use Rattle.base.specs.Refusals.{verdictTells};
 ghost use Rattle.chain.specs.Finder.{nextRiseOf};
 ghost use Rattle.word.specs.Answers.{decodedTells, encodedTells};
 ghost use Rattle.writer.specs.Written.{writtenTells};
 ghost use Rattle.zhaqsumir.specs.Commands.{givenTells};
 ghost use Rattle.zhaqsumir.specs.Numbers as N;
-
-// Document 01's number of a refusal.
-fn number(e: Refusal) -> u64
-    ensures { λ r. ⌜ r ≡ numberOf e ⌝ }
-{
-    match e {
-        Refusal::Sample(_) => 1,
-        Refusal::ScanChip => 2,
-        Refusal::ChipCount => 3,
-        Refusal::PartRow => 4,
-        Refusal::Rows => 5,
-        Refusal::Unlisted(_) => 6,
-        Refusal::Keypad(_) => 7,
-        Refusal::Room => 8,
-        Refusal::Field => 9,
-        Refusal::Line(_) => 10,
-        Refusal::Text => 11,
-        Refusal::Record => 12,
-    }
-}
-
-// The place that a refusal names, or 0.
-fn place(e: Refusal) -> u64
-    ensures { λ r. ⌜ r ≡ placeOf e ⌝ }
-{
-    match e {
-        Refusal::Sample(at) => at,
-        Refusal::ScanChip => 0,
-        Refusal::ChipCount => 0,
-        Refusal::PartRow => 0,
-        Refusal::Rows => 0,
-        Refusal::Unlisted(at) => at,
-        Refusal::Keypad(at) => at,
-        Refusal::Room => 0,
-        Refusal::Field => 0,
-        Refusal::Line(at) => at,
-        Refusal::Text => 0,
-        Refusal::Record => 0,
-    }
-}
 
 // The number of a verdict's refusal; 0 where it is none.
 fn verdict_number(v: Verdict) -> u64
@@ -67,7 +27,7 @@ fn verdict_number(v: Verdict) -> u64
 {
     match v {
         Verdict::Done => 0,
-        Verdict::Refused(e) => number(e),
+        Verdict::Refused(e) => base::number(e),
     }
 }
 
@@ -77,7 +37,7 @@ fn verdict_place(v: Verdict) -> u64
 {
     match v {
         Verdict::Done => 0,
-        Verdict::Refused(e) => place(e),
+        Verdict::Refused(e) => base::place(e),
     }
 }
 
@@ -87,7 +47,7 @@ fn decoded(answer: Decoded) -> [u64; 8]
 {
     match answer {
         Decoded::Means(c) => commands::meaning(c),
-        Decoded::Refused(e) => [number(e), place(e), 0, 0, 0, 0, 0, 0],
+        Decoded::Refused(e) => [base::number(e), base::place(e), 0, 0, 0, 0, 0, 0],
     }
 }
 
@@ -97,7 +57,7 @@ fn encoded(answer: Encoded) -> [u64; 3]
 {
     match answer {
         Encoded::Word(w) => [0, 0, w as u64],
-        Encoded::Refused(e) => [number(e), place(e), 0],
+        Encoded::Refused(e) => [base::number(e), base::place(e), 0],
     }
 }
 
@@ -117,7 +77,7 @@ fn written(answer: Written) -> [u64; 3]
 {
     match answer {
         Written::Samples(count) => [0, 0, count as u64],
-        Written::Refused(e) => [number(e), place(e), 0],
+        Written::Refused(e) => [base::number(e), base::place(e), 0],
     }
 }
 

@@ -6,7 +6,7 @@ use native.Mathlib.Omega.{arith}
 use Rattle.base.proofs.Tests.{past}
 use Rattle.word.specs.declared.Command.the-variants.{BarLevel, SegmentClear, SegmentSet, CustomCharacter, BlinkByte}
 use Rattle.zhaqsumir.specs.Commands.{commandFrom}
-use Rattle.zhaqsumir.proofs.Fields.{of-kind, of-byte, no-such-kind}
+use Rattle.zhaqsumir.proofs.Fields.{of-kind, of-field, no-such-kind}
 use borrow.Author.Needs.{needs}
 use Rattle.zhaqsumir.proofs.commands.command_from.Statement.{statement}
 use Rattle.zhaqsumir.proofs.commands.command_from.Tie as tie
@@ -21,19 +21,19 @@ returns-2 : tie.Need-returns-2
 unfolding commandFrom
 returns-2 c =
     let a = c .before .before .before .args in
-    of-kind 1 (a .kind) (a .a) (a .b) (a .c) (a .d) (a .e) (omega arith) (of-byte BarLevel (a .a) (c .before .low .ensures) (c .one-byte .ensures))
+    of-kind 1 (a .kind) (a .a) (a .b) (a .c) (a .d) (a .e) (omega arith) (of-field BarLevel (a .a) (omega arith) (c .before .low .ensures) (c .one-field .ensures))
 
 returns-3 : tie.Need-returns-3
 unfolding commandFrom
 returns-3 c =
     let a = c .before .before .before .args in
-    of-kind 2 (a .kind) (a .a) (a .b) (a .c) (a .d) (a .e) (omega arith) (of-byte SegmentClear (a .a) (c .before .low2 .ensures) (c .one-byte2 .ensures))
+    of-kind 2 (a .kind) (a .a) (a .b) (a .c) (a .d) (a .e) (omega arith) (of-field SegmentClear (a .a) (omega arith) (c .before .low2 .ensures) (c .one-field2 .ensures))
 
 returns-4 : tie.Need-returns-4
 unfolding commandFrom
 returns-4 c =
     let a = c .before .before .before .args in
-    of-kind 3 (a .kind) (a .a) (a .b) (a .c) (a .d) (a .e) (omega arith) (of-byte SegmentSet (a .a) (c .before .low3 .ensures) (c .one-byte3 .ensures))
+    of-kind 3 (a .kind) (a .a) (a .b) (a .c) (a .d) (a .e) (omega arith) (of-field SegmentSet (a .a) (omega arith) (c .before .low3 .ensures) (c .one-field3 .ensures))
 
 returns-5 : tie.Need-returns-5
 unfolding commandFrom
@@ -75,7 +75,7 @@ returns-11 : tie.Need-returns-11
 unfolding commandFrom
 returns-11 c =
     let a = c .before .before .before .args in
-    of-kind 10 (a .kind) (a .a) (a .b) (a .c) (a .d) (a .e) (omega arith) (of-byte CustomCharacter (a .a) (c .before .low4 .ensures) (c .one-byte4 .ensures))
+    of-kind 10 (a .kind) (a .a) (a .b) (a .c) (a .d) (a .e) (omega arith) (of-field CustomCharacter (a .a) (omega arith) (c .before .low4 .ensures) (c .one-field4 .ensures))
 
 returns-12 : tie.Need-returns-12
 unfolding commandFrom
@@ -93,7 +93,7 @@ returns-14 : tie.Need-returns-14
 unfolding commandFrom
 returns-14 c =
     let a = c .before .before .before .args in
-    of-kind 13 (a .kind) (a .a) (a .b) (a .c) (a .d) (a .e) (omega arith) (of-byte BlinkByte (a .a) (c .before .low5 .ensures) (c .one-byte5 .ensures))
+    of-kind 13 (a .kind) (a .a) (a .b) (a .c) (a .d) (a .e) (omega arith) (of-field BlinkByte (a .a) (omega arith) (c .before .low5 .ensures) (c .one-field5 .ensures))
 
 returns-15 : tie.Need-returns-15
 unfolding commandFrom

@@ -16,4 +16,4 @@ returns-3 : tie.Need-returns-3
 returns-3 c = fits-in (c .before .if1 .left) (fits-in (c .if2 .left) refl)
 
 pub digit-from-spec : {M : Type 1} → statement M
-digit-from-spec = tie.close (tie.spec returns returns-2 (λ c. search needs) (λ c. search needs) returns-3)
+digit-from-spec = tie.close (tie.spec (λ c. search needs) returns returns-2 (λ c. search needs) (λ c. search needs) returns-3)

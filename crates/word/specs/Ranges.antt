@@ -1,5 +1,4 @@
--- The ranges of a command's fields, by its kind: what refusal 9 comes down to where a command is given as numbers (proofs/Ranges.antt).
--- No contract cites these.
+-- Document 01, "The words" and refusal 9: the ranges of a command's fields, by its kind. This is the one table of them.
 -- Assumes nothing.
 use Prim.Native.Nat.{ℕ}
 use mathlib.Core.Bool.{Bool, true, false, _&&_}
@@ -7,28 +6,41 @@ use mathlib.Core.List.{List, [], _∷_}
 use lib.Dec.{leb}
 use lib.ListN.{getD}
 
--- for each kind, in the order of document 01's table, the most of each field that it has: no operation; bar level; segment clear,
--- segment set; reset, sleep; the four shifts and rotates; custom character; system parameters; display parameters; blink byte; read
--- key; load digit
+-- for each kind, from 0 in the order of document 01's table, the most of each field that it has; a bit is a field of at most 1
 abbrev pub ranges : List (List ℕ)
 ranges =
+    -- 0: no operation
     []
+    -- 1: bar level
     ∷ (64 ∷ [])
+    -- 2, 3: segment clear, segment set
     ∷ (63 ∷ [])
     ∷ (63 ∷ [])
+    -- 4, 5: reset, sleep
+    ∷ []
+    ∷ []
+    -- 6 to 9: shift left, shift right, rotate left, rotate right
     ∷ []
     ∷ []
     ∷ []
     ∷ []
-    ∷ []
-    ∷ []
+    -- 10: custom character
     ∷ (127 ∷ [])
+    -- 11: system parameters, INTM SSPD DPLR KEYB DISP
     ∷ (1 ∷ 1 ∷ 1 ∷ 1 ∷ 1 ∷ [])
+    -- 12: display parameters, MODE and LIMIT
     ∷ (1 ∷ 7 ∷ [])
+    -- 13: blink byte
     ∷ (255 ∷ [])
+    -- 14: read key
     ∷ []
+    -- 15: load digit, DIG and DATA
     ∷ (7 ∷ 255 ∷ [])
     ∷ []
+
+-- the most of a field of a kind, both counted from 0
+abbrev pub mostOf : ℕ → ℕ → ℕ
+mostOf kind field = getD (getD ranges kind []) field 0
 
 -- each field is at most its most; further fields are not looked at
 abbrev pub within : List ℕ → List ℕ → Bool
