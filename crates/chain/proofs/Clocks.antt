@@ -17,10 +17,10 @@ use Rattle.base.specs.Bits.{cut, bit, digit}
 use Rattle.base.proofs.Picks.{pick-yes, pick-no, pick-ap, pick-cases}
 use Rattle.base.proofs.Cuts.{cut-lt, cut-zero}
 use Rattle.base.proofs.Tests.{eq-below, and-left, and-right}
-use Rattle.chip.specs.declared.Line.{Line}
+use Rattle.chip.specs.declared.LineParts.{LineParts}
 use Rattle.chip.specs.declared.Chip.{Chip}
-use Rattle.chip.specs.Record.{valid}
-use Rattle.chip.specs.Edges.{dclkFalls, dclkRises, loadRises, clocked, clockedIn, clockedOut, withLine, loaded, stepped}
+use Rattle.chip.specs.Record.{valid, withLine}
+use Rattle.chip.specs.Edges.{dclkFalls, dclkRises, loadRises, clocked, clockedIn, clockedOut, loaded, stepped}
 use Rattle.chip.proofs.Quiet.{loaded-register, loaded-latch, dout-latch}
 use Rattle.chip.proofs.Valid.{valid-facts}
 use Rattle.chain.specs.Chain.{allValid, steppedRow}
@@ -49,7 +49,7 @@ held-stepped was now d c =
     e : Chip
     e = withLine (clocked was now d (c .line)) c
 
-    part : Line → Held
+    part : LineParts → Held
     part l = record { register = l .register; latch = l .latch }
 
     same-held : (x : Chip) → heldOf (loaded x) ≡ heldOf x

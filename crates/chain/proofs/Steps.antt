@@ -15,9 +15,10 @@ use Rattle.base.specs.Bits.{bit}
 use lib.ListN.{length, getD, set, drop}
 use lib.Seq.{set-set, getD-set-same}
 use Rattle.base.proofs.Picks.{pick-yes, pick-no}
+use Rattle.chip.specs.Record.{withLine}
 use Rattle.chip.specs.declared.Chip.{Chip}
 use Rattle.chip.specs.Commands.{dout}
-use Rattle.chip.specs.Edges.{din, dclk, dclkRises, dclkFalls, loadRises, shifted, clocked, withLine, stepped}
+use Rattle.chip.specs.Edges.{din, dclk, dclkRises, dclkFalls, loadRises, shifted, clocked, stepped}
 use Rattle.chain.specs.declared.Chain.{Chain}
 use Rattle.chain.specs.Chain.{steppedRow, steppedChain, played}
 use Rattle.chain.proofs.Rest.{play-more}

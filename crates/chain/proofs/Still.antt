@@ -11,9 +11,10 @@ use mathlib.Core.List.{List, [], _∷_}
 use Prim.Native.Nat.{ℕ, zero, suc}
 use Rattle.base.specs.Pick.{pick}
 use Rattle.base.proofs.Picks.{pick-no, pick-cases}
+use Rattle.chip.specs.Record.{withLine}
 use Rattle.chip.specs.declared.Chip.{Chip}
 use Rattle.chip.specs.Commands.{dout}
-use Rattle.chip.specs.Edges.{din, dclk, load, loadRises, clockedIn, clockedOut, clocked, withLine, loaded, stepped}
+use Rattle.chip.specs.Edges.{din, dclk, load, loadRises, clockedIn, clockedOut, clocked, loaded, stepped}
 use Rattle.chain.specs.declared.Chain.{Chain}
 use Rattle.chain.specs.Chain.{steppedRow, steppedChain, played}
 use Rattle.chain.specs.Still.{sameLevel, still, kept}

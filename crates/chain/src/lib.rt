@@ -6,7 +6,7 @@ use base::Refusal;
 use base::Verdict;
 use chip::Chip;
 use chip::Keys;
-use chip::Line;
+use chip::LineParts;
 use chip::Readout;
 
 pub mod finder;
@@ -43,7 +43,7 @@ fn zero_chain() -> Chain
     ensures { λ r. ⌜ r ≡ E.zeroChain ⌝ }
 {
     let zero = Chip {
-        line: Line {
+        line: LineParts {
             register: 0,
             latch: false,
             readout: Readout { code: 0, left: 0 },

@@ -15,8 +15,8 @@ use Rattle.word.specs.declared.Command.{Command}
 use Rattle.word.specs.declared.Command.the-variants.{BarLevel, SegmentClear, SegmentSet, Reset, RotateLeft, SystemParameters, DisplayParameters, ReadKey, LoadDigit}
 use Rattle.word.proofs.Rows.{fits-row}
 use Rattle.chip.specs.declared.Chip.{Chip}
-use Rattle.chip.specs.Record.{none}
-use Rattle.chip.specs.Commands.{applied, appliedWord, obey, reset, system, readKey, bar, segment, dout, movedLeft, withKeys}
+use Rattle.chip.specs.Record.{none, withKeys}
+use Rattle.chip.specs.Commands.{applied, appliedWord, obey, reset, system, readKey, bar, segment, dout, movedLeft}
 use Rattle.chip.specs.Edges.{idle, loaded, stepped, clocked}
 use Rattle.chip.specs.Segments.{bcd, shape}
 use Rattle.chip.specs.Scans.{firstClosed, result, codeOf, released, keyed, scannedBy}

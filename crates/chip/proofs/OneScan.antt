@@ -21,8 +21,7 @@ use borrow.Author.Tests.{eq-eqb, ne-eqb, eqb-true, not-true}
 use Rattle.base.proofs.Picks.{pick-yes, pick-no, pick-cases}
 use Rattle.chip.specs.declared.Chip.{Chip}
 use Rattle.chip.specs.declared.Keys.{Keys}
-use Rattle.chip.specs.Record.{none}
-use Rattle.chip.specs.Commands.{withKeys}
+use Rattle.chip.specs.Record.{none, withKeys}
 use Rattle.chip.specs.Scans.{codeOf, released, newKey, bothNone, keyed, wakes, scannedBy, Recording, recordedBy}
 use Rattle.chip.specs.History.{isKey}
 

@@ -23,11 +23,11 @@ use Rattle.base.proofs.Picks.{pick-yes, pick-no}
 use Rattle.word.specs.Words.{decodedOf}
 use Rattle.word.specs.declared.Command.{Command}
 use Rattle.word.specs.declared.Command.the-variants.{NoOperation, BarLevel, SegmentClear, SegmentSet, Reset, Sleep, ShiftLeft, ShiftRight, RotateLeft, RotateRight, CustomCharacter, SystemParameters, DisplayParameters, BlinkByte, ReadKey, LoadDigit}
-use Rattle.chip.specs.declared.Line.{Line}
+use Rattle.chip.specs.declared.LineParts.{LineParts}
 use Rattle.chip.specs.declared.Chip.{Chip}
-use Rattle.chip.specs.Record.{Body, bodyOf, none}
-use Rattle.chip.specs.Commands.{applied, appliedWord, obey, woken, reset, system, readKey, withKeys, withSleeping, dout}
-use Rattle.chip.specs.Edges.{loaded, stepped, clocked, withLine, loadRises}
+use Rattle.chip.specs.Record.{Body, bodyOf, none, withKeys, withSleeping, withLine}
+use Rattle.chip.specs.Commands.{applied, appliedWord, obey, woken, reset, system, readKey, dout}
+use Rattle.chip.specs.Edges.{loaded, stepped, clocked, loadRises}
 use Rattle.chip.specs.Scans.{scannedBy, recordedBy, wakes, keyed}
 
 -- ---- samples
@@ -49,7 +49,7 @@ stepped-line was now d c e = ap (λ (x : Chip). x .line) (moved was now d c e)
 
 -- ---- what doesn't depend on the line parts
 
-pub by-body {ℓ} : {A : Type ℓ} (f : Chip → A) → ((l : Line) (c : Chip) → f (withLine l c) ≡ f c) → (c d : Chip) → bodyOf c ≡ bodyOf d → f c ≡ f d
+pub by-body {ℓ} : {A : Type ℓ} (f : Chip → A) → ((l : LineParts) (c : Chip) → f (withLine l c) ≡ f c) → (c d : Chip) → bodyOf c ≡ bodyOf d → f c ≡ f d
 by-body f same c d e =
     ap (λ (b : Body). f (record { line = c .line; settings = b .settings; digits = b .digits; keys = b .keys })) e ∙ same (c .line) d
 
@@ -64,7 +64,7 @@ kept f true p q = p
 kept f false p q = q
 
 -- a command's effect on the rest, whatever the line parts are
-obey-body : (command : Command) (l : Line) (c : Chip) → bodyOf (obey command (woken (withLine l c))) ≡ bodyOf (obey command (woken c))
+obey-body : (command : Command) (l : LineParts) (c : Chip) → bodyOf (obey command (woken (withLine l c))) ≡ bodyOf (obey command (woken c))
 unfolding obey reset system readKey
 obey-body NoOperation l c = refl
 obey-body (BarLevel level) l c = refl

@@ -22,11 +22,11 @@ use Rattle.word.specs.declared.Command.{Command}
 use Rattle.word.specs.declared.Command.the-variants.{NoOperation, BarLevel, SegmentClear, SegmentSet, Reset, Sleep, ShiftLeft, ShiftRight, RotateLeft, RotateRight, CustomCharacter, SystemParameters, DisplayParameters, BlinkByte, ReadKey, LoadDigit}
 use Rattle.word.proofs.RoundTrips.{meaning-legal}
 use Rattle.chip.specs.declared.Chip.{Chip}
-use Rattle.chip.specs.declared.Line.{Line}
+use Rattle.chip.specs.declared.LineParts.{LineParts}
 use Rattle.chip.specs.declared.Keys.{Keys}
-use Rattle.chip.specs.Record.{valid, validReadout, none, resetChip}
+use Rattle.chip.specs.Record.{valid, validReadout, none, resetChip, withLine}
 use Rattle.chip.specs.Commands.{applied, appliedWord, obey, woken, reset, system, readKey}
-use Rattle.chip.specs.Edges.{loaded, stepped, clocked, withLine, loadRises, dclkFalls, dclkRises}
+use Rattle.chip.specs.Edges.{loaded, stepped, clocked, loadRises, dclkFalls, dclkRises}
 use Rattle.chip.specs.Scans.{result, newKey, bothNone, codeOf, keyed, scannedBy, scanned, wakes}
 use Rattle.chip.proofs.Closed.{result-le}
 
@@ -44,8 +44,8 @@ Facts c =
       last : c .keys .last ≤ none;
     }
 
--- six tests passed together
-all-six : (a b c d e f : Bool) → T (a && b && c && d && e && f) ↔ (T a × T b × T c × T d × T e × T f)
+-- six tests passed together, two by two
+all-six : (a b c d e f : Bool) → T ((a && b) && (c && d) && (e && f)) ↔ (T a × T b × T c × T d × T e × T f)
 all-six true true true true true true = ((λ t. (tt, tt, tt, tt, tt, t)), (λ ts. ts .5))
 all-six true true true true true false = ((λ t. absurd t), (λ ts. ts .5))
 all-six true true true true false f = ((λ t. absurd t), (λ ts. ts .4))
@@ -156,7 +156,7 @@ clocked-facts : (was now : ℕ) (d : Bool) (c : Chip) → Facts c → Facts (wit
 unfolding clocked
 clocked-facts was now d c v =
     let small = digit-lt d in
-    pick-cases (λ (l : Line). Facts (withLine l c)) (dclkFalls was now)
+    pick-cases (λ (l : LineParts). Facts (withLine l c)) (dclkFalls was now)
     (λ e. record {
       register = v .register;
       readout = moved-on (c .line .readout .code) (c .line .readout .left) (v .readout);
@@ -166,7 +166,7 @@ clocked-facts was now d c v =
       last = v .last;
     })
     (λ e.
-    pick-cases (λ (l : Line). Facts (withLine l c)) (dclkRises was now)
+    pick-cases (λ (l : LineParts). Facts (withLine l c)) (dclkRises was now)
     (λ e. record { register = omega arith; readout = v .readout; custom = v .custom; limit = v .limit; code = v .code; last = v .last })
     (λ e. v))
 

@@ -14,63 +14,11 @@ use Rattle.word.specs.declared.Display.{Display}
 use Rattle.word.specs.declared.Command.{Command}
 use Rattle.word.specs.declared.Command.the-variants.{NoOperation, BarLevel, SegmentClear, SegmentSet, Reset, Sleep, ShiftLeft, ShiftRight, RotateLeft, RotateRight, CustomCharacter, SystemParameters, DisplayParameters, BlinkByte, ReadKey, LoadDigit}
 use Rattle.chip.specs.declared.Readout.{Readout}
-use Rattle.chip.specs.declared.Line.{Line}
+use Rattle.chip.specs.declared.LineParts.{LineParts}
 use Rattle.chip.specs.declared.Settings.{Settings}
 use Rattle.chip.specs.declared.Keys.{Keys}
 use Rattle.chip.specs.declared.Chip.{Chip}
-use Rattle.chip.specs.Record.{none, resetSettings, blank, resetKeys}
-
--- ---- a chip with one part exchanged
-
-abbrev pub withSettings : Settings → Chip → Chip
-withSettings s c = record { line = c .line; settings = s; digits = c .digits; keys = c .keys }
-
-abbrev pub withDigits : List ℕ → Chip → Chip
-withDigits ds c = record { line = c .line; settings = c .settings; digits = ds; keys = c .keys }
-
-abbrev pub withKeys : Keys → Chip → Chip
-withKeys ks c = record { line = c .line; settings = c .settings; digits = c .digits; keys = ks }
-
--- so many bits of a code left to read out; the register and the latch stay
-abbrev pub withReadout : ℕ → ℕ → Chip → Chip
-withReadout code left c =
-    record {
-      line = record { register = c .line .register; latch = c .line .latch; readout = record { code = code; left = left } };
-      settings = c .settings;
-      digits = c .digits;
-      keys = c .keys;
-    }
-
--- the readout is over: no bits left
-abbrev pub endedReadout : Chip → Chip
-endedReadout c = withReadout (c .line .readout .code) 0 c
-
-abbrev pub withSleeping : Bool → Chip → Chip
-withSleeping mark c =
-    withSettings
-    (record {
-      system = c .settings .system;
-      display = c .settings .display;
-      blink = c .settings .blink;
-      custom = c .settings .custom;
-      sleeping = mark;
-    })
-    c
-
-abbrev pub withDisplay : Display → Chip → Chip
-withDisplay d c =
-    withSettings
-    (record {
-      system = c .settings .system;
-      display = d;
-      blink = c .settings .blink;
-      custom = c .settings .custom;
-      sleeping = c .settings .sleeping;
-    })
-    c
-
-abbrev pub withInterrupt : Bool → Chip → Chip
-withInterrupt stands c = withKeys (record { code = c .keys .code; interrupt = stands; last = c .keys .last }) c
+use Rattle.chip.specs.Record.{none, resetSettings, blank, resetKeys, withSettings, withDigits, withKeys, withSystem, withDisplay, withBlink, withCustom, withSleeping, withInterrupt, withLast, withReadout, endedReadout}
 
 -- ---- segments by address
 
@@ -110,8 +58,8 @@ reset c = endedReadout (withSettings resetSettings (withDigits blank (withKeys r
 -- system parameters; KEYB = 0 also clears the interrupt, sets the last scan to none and ends the readout
 unfoldable pub system : System → Chip → Chip
 system s c =
-    let d = withSettings (record { system = s; display = c .settings .display; blink = c .settings .blink; custom = c .settings .custom; sleeping = c .settings .sleeping }) c in
-    pick (s .keyb) d (endedReadout (withKeys (record { code = c .keys .code; interrupt = false; last = none }) d))
+    let d = withSystem s c in
+    pick (s .keyb) d (endedReadout (withLast none (withInterrupt false d)))
 
 -- read key with KEYB on clears the interrupt and starts a readout of the code held at that moment; with KEYB off it does nothing
 unfoldable pub readKey : Chip → Chip
@@ -129,12 +77,10 @@ obey ShiftLeft c = withDigits (movedLeft 0 (c .digits)) c
 obey ShiftRight c = withDigits (movedRight 0 (c .digits)) c
 obey RotateLeft c = withDigits (movedLeft (getD (c .digits) 7 0) (c .digits)) c
 obey RotateRight c = withDigits (movedRight (getD (c .digits) 0 0) (c .digits)) c
-obey (CustomCharacter shape) c =
-    withSettings (record { system = c .settings .system; display = c .settings .display; blink = c .settings .blink; custom = shape; sleeping = c .settings .sleeping }) c
+obey (CustomCharacter shape) c = withCustom shape c
 obey (SystemParameters s) c = system s c
 obey (DisplayParameters d) c = withDisplay d c
-obey (BlinkByte byte) c =
-    withSettings (record { system = c .settings .system; display = c .settings .display; blink = byte; custom = c .settings .custom; sleeping = c .settings .sleeping }) c
+obey (BlinkByte byte) c = withBlink byte c
 obey ReadKey c = readKey c
 obey (LoadDigit dig byte) c = withDigits (set (c .digits) dig byte) c
 

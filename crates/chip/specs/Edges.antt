@@ -5,8 +5,9 @@ use mathlib.Core.Bool.{Bool, true, false, not, _&&_}
 use Rattle.base.specs.Pick.{pick}
 use Rattle.base.specs.Bits.{bit, digit}
 use Rattle.word.specs.Words.{decodedOf}
-use Rattle.chip.specs.declared.Line.{Line}
+use Rattle.chip.specs.declared.LineParts.{LineParts}
 use Rattle.chip.specs.declared.Chip.{Chip}
+use Rattle.chip.specs.Record.{withLine}
 use Rattle.chip.specs.Commands.{appliedWord}
 
 -- a sample is DIN + 2·DCLK + 4·LOAD
@@ -38,11 +39,11 @@ abbrev pub shifted : ℕ → Bool → ℕ
 shifted register d = register / 2 + 2048 * digit d
 
 -- DCLK rise
-abbrev pub clockedIn : Bool → Line → Line
+abbrev pub clockedIn : Bool → LineParts → LineParts
 clockedIn d l = record { register = shifted (l .register) d; latch = l .latch; readout = l .readout }
 
 -- DCLK fall: the latch takes register bit 0; a running readout moves on, over when no bits are left
-abbrev pub clockedOut : Line → Line
+abbrev pub clockedOut : LineParts → LineParts
 clockedOut l =
     record {
       register = l .register;
@@ -51,11 +52,8 @@ clockedOut l =
     }
 
 -- what DCLK does to the line parts
-unfoldable pub clocked : ℕ → ℕ → Bool → Line → Line
+unfoldable pub clocked : ℕ → ℕ → Bool → LineParts → LineParts
 clocked was now d l = pick (dclkFalls was now) (clockedOut l) (pick (dclkRises was now) (clockedIn d l) l)
-
-abbrev pub withLine : Line → Chip → Chip
-withLine l c = record { line = l; settings = c .settings; digits = c .digits; keys = c .keys }
 
 -- LOAD rise: the register is obeyed as a command, whatever it holds
 unfoldable pub loaded : Chip → Chip

@@ -1,4 +1,5 @@
--- Document 01, "Samples and edges": a chip's parts; refusal 12's chip part; a chip as the capture text starts it.
+-- Document 01, "Samples and edges": a chip's parts; refusal 12's chip part; a chip as the capture text starts it; a chip with one thing
+-- exchanged, part by part.
 -- Assumes nothing.
 use Prim.Native.Nat.{ℕ}
 use mathlib.Core.Bool.{Bool, true, false, _&&_, _||_}
@@ -7,7 +8,7 @@ use lib.Dec.{eqb, leb}
 use Rattle.word.specs.declared.System.{System}
 use Rattle.word.specs.declared.Display.{Display}
 use Rattle.chip.specs.declared.Readout.{Readout}
-use Rattle.chip.specs.declared.Line.{Line}
+use Rattle.chip.specs.declared.LineParts.{LineParts}
 use Rattle.chip.specs.declared.Settings.{Settings}
 use Rattle.chip.specs.declared.Keys.{Keys}
 use Rattle.chip.specs.declared.Chip.{Chip}
@@ -29,15 +30,21 @@ bodyOf c = record { settings = c .settings; digits = c .digits; keys = c .keys }
 abbrev pub validReadout : Readout → Bool
 validReadout r = leb (r .left) 7 && (eqb (r .left) 0 || leb (r .code) 127)
 
--- refusal 12's chip part: register, readout, custom, limit, code and last scan are what a chip can hold
+-- refusal 12's chip part, by parts. LineParts parts: register and readout
+abbrev pub validLine : LineParts → Bool
+validLine l = leb (l .register) 4095 && validReadout (l .readout)
+
+-- settings: custom and limit
+abbrev pub validSettings : Settings → Bool
+validSettings s = leb (s .custom) 127 && leb (s .display .limit) 7
+
+-- key record: code and last scan
+abbrev pub validKeys : Keys → Bool
+validKeys k = leb (k .code) 127 && leb (k .last) none
+
+-- every part is what a chip can hold
 unfoldable pub valid : Chip → Bool
-valid c =
-    leb (c .line .register) 4095
-    && validReadout (c .line .readout)
-    && leb (c .settings .custom) 127
-    && leb (c .settings .display .limit) 7
-    && leb (c .keys .code) 127
-    && leb (c .keys .last) none
+valid c = validLine (c .line) && validSettings (c .settings) && validKeys (c .keys)
 
 -- settings as a reset leaves them: every bit 0, awake
 abbrev pub resetSettings : Settings
@@ -67,3 +74,57 @@ resetChip =
       digits = blank;
       keys = resetKeys;
     }
+
+-- ---- a chip with one part exchanged
+
+abbrev pub withLine : LineParts → Chip → Chip
+withLine l c = record { line = l; settings = c .settings; digits = c .digits; keys = c .keys }
+
+abbrev pub withSettings : Settings → Chip → Chip
+withSettings s c = record { line = c .line; settings = s; digits = c .digits; keys = c .keys }
+
+abbrev pub withDigits : List ℕ → Chip → Chip
+withDigits ds c = record { line = c .line; settings = c .settings; digits = ds; keys = c .keys }
+
+abbrev pub withKeys : Keys → Chip → Chip
+withKeys ks c = record { line = c .line; settings = c .settings; digits = c .digits; keys = ks }
+
+-- ---- line parts
+
+-- so many bits of a code left to read out; the register and the latch stay
+abbrev pub withReadout : ℕ → ℕ → Chip → Chip
+withReadout code left c =
+    withLine (record { register = c .line .register; latch = c .line .latch; readout = record { code = code; left = left } }) c
+
+-- the readout is over: no bits left
+abbrev pub endedReadout : Chip → Chip
+endedReadout c = withReadout (c .line .readout .code) 0 c
+
+-- ---- settings
+
+-- settings of the five things that they are
+abbrev settings : System → Display → ℕ → ℕ → Bool → Settings
+settings s d b v mark = record { system = s; display = d; blink = b; custom = v; sleeping = mark }
+
+abbrev pub withSystem : System → Chip → Chip
+withSystem s c = withSettings (settings s (c .settings .display) (c .settings .blink) (c .settings .custom) (c .settings .sleeping)) c
+
+abbrev pub withDisplay : Display → Chip → Chip
+withDisplay d c = withSettings (settings (c .settings .system) d (c .settings .blink) (c .settings .custom) (c .settings .sleeping)) c
+
+abbrev pub withBlink : ℕ → Chip → Chip
+withBlink byte c = withSettings (settings (c .settings .system) (c .settings .display) byte (c .settings .custom) (c .settings .sleeping)) c
+
+abbrev pub withCustom : ℕ → Chip → Chip
+withCustom shape c = withSettings (settings (c .settings .system) (c .settings .display) (c .settings .blink) shape (c .settings .sleeping)) c
+
+abbrev pub withSleeping : Bool → Chip → Chip
+withSleeping mark c = withSettings (settings (c .settings .system) (c .settings .display) (c .settings .blink) (c .settings .custom) mark) c
+
+-- ---- key record
+
+abbrev pub withInterrupt : Bool → Chip → Chip
+withInterrupt stands c = withKeys (record { code = c .keys .code; interrupt = stands; last = c .keys .last }) c
+
+abbrev pub withLast : ℕ → Chip → Chip
+withLast last c = withKeys (record { code = c .keys .code; interrupt = c .keys .interrupt; last = last }) c

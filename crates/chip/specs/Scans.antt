@@ -12,8 +12,7 @@ use Rattle.chip.specs.declared.Chip.{Chip}
 use Rattle.chip.specs.declared.scans.Taken.{Taken}
 use Rattle.chip.specs.declared.Recorded.{Recorded}
 use Rattle.chip.specs.declared.Recorded.the-variants.{Nothing, Key}
-use Rattle.chip.specs.Record.{none}
-use Rattle.chip.specs.Commands.{withKeys, withSleeping}
+use Rattle.chip.specs.Record.{none, withKeys, withSleeping, withLast}
 
 -- what a scan records, by document 01's values: nothing, or a code
 pub data Recording : Type 0 where
@@ -71,7 +70,7 @@ keyed r k =
 abbrev pub scannedAsleep : ℕ → Chip → Chip
 scannedAsleep r c =
     pick (wakes r)
-    (withSleeping false (withKeys (record { code = c .keys .code; interrupt = c .keys .interrupt; last = none }) c))
+    (withSleeping false (withLast none c))
     c
 
 -- what a scan with a result does to a chip; awake with KEYB off: nothing

@@ -14,6 +14,7 @@ ghost use lib.ListN.{set};
 ghost use Rattle.base.specs.Pick.{pick};
 ghost use Rattle.base.specs.Bits.{bit, byteOf};
 ghost use Rattle.chip.specs.Record.{resetSettings, resetKeys};
+ghost use Rattle.chip.specs.Record as P;
 ghost use Rattle.chip.specs.Commands as C;
 ghost use Rattle.chip.specs.Edges as E;
 
@@ -180,7 +181,7 @@ fn read_key(chip: Chip) -> Chip
 }
 
 fn with_digits(digits: [u8; 8], chip: Chip) -> Chip
-    ensures { λ r. ⌜ r ≡ C.withDigits digits chip ⌝ }
+    ensures { λ r. ⌜ r ≡ P.withDigits digits chip ⌝ }
 {
     let mut next = chip;
     next.digits = digits;
@@ -188,7 +189,7 @@ fn with_digits(digits: [u8; 8], chip: Chip) -> Chip
 }
 
 fn with_display(d: Display, chip: Chip) -> Chip
-    ensures { λ r. ⌜ r ≡ C.withDisplay d chip ⌝ }
+    ensures { λ r. ⌜ r ≡ P.withDisplay d chip ⌝ }
 {
     let mut settings = chip.settings;
     settings.display = d;

@@ -1,6 +1,6 @@
 // Samples and edges: what one sample does to one chip.
 use crate::Chip;
-use crate::Line;
+use crate::LineParts;
 use crate::Readout;
 use crate::commands;
 ghost use mathlib.Core.Path.{_≡_};
@@ -96,7 +96,7 @@ pub fn dout(chip: Chip) -> bool
 }
 
 // What DCLK does to the line parts.
-fn clocked(was: u8, now: u8, din: bool, line: Line) -> Line
+fn clocked(was: u8, now: u8, din: bool, line: LineParts) -> LineParts
     ensures { λ r. ⌜ r ≡ E.clocked was «now» din line ⌝ }
 {
     let mut l = line;

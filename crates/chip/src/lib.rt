@@ -14,7 +14,7 @@ pub mod scans;
 pub mod segments;
 
 ghost use mathlib.Core.Path.{_≡_};
-ghost use Rattle.chip.specs.Record.{resetChip, valid, validReadout};
+ghost use Rattle.chip.specs.Record.{resetChip, valid, validLine, validSettings, validKeys, validReadout};
 ghost use Rattle.chip.specs.Entries.{handed, appliedOf, sampledOf, handedScan, scannedOf, handedLit, segmentsOf};
 
 // What is left of a readout: bits of a code, K6 first. With 0 bits left there is none.
@@ -24,7 +24,7 @@ pub struct Readout {
 }
 
 // The line parts: the 12-bit register, the DOUT latch and the readout.
-pub struct Line {
+pub struct LineParts {
     pub register: u16,
     pub latch: bool,
     pub readout: Readout,
@@ -48,7 +48,7 @@ pub struct Keys {
 
 // The display is the digits: the data bytes of DIG0 to DIG7.
 pub struct Chip {
-    pub line: Line,
+    pub line: LineParts,
     pub settings: Settings,
     pub digits: [u8; 8],
     pub keys: Keys,
@@ -92,7 +92,7 @@ pub fn reset_chip() -> Chip
     ensures { λ r. ⌜ r ≡ resetChip ⌝ }
 {
     Chip {
-        line: Line {
+        line: LineParts {
             register: 0,
             latch: true,
             readout: Readout { code: 0, left: 0 },
@@ -116,30 +116,51 @@ fn is_readout(r: Readout) -> bool
     r.code <= 127
 }
 
-// Whether a record is one that a chip can hold: refusal 12's chip part.
+// Refusal 12's chip part, by parts. LineParts parts: register and readout.
+fn is_line(line: LineParts) -> bool
+    ensures { λ r. ⌜ r ≡ validLine line ⌝ }
+{
+    if line.register > 4095 {
+        return false;
+    }
+    let readout = line.readout;
+    is_readout(readout)
+}
+
+// Settings: custom and limit.
+fn is_settings(settings: Settings) -> bool
+    ensures { λ r. ⌜ r ≡ validSettings settings ⌝ }
+{
+    if settings.custom > 127 {
+        return false;
+    }
+    settings.display.limit <= 7
+}
+
+// Key record: code and last scan.
+fn is_keys(keys: Keys) -> bool
+    ensures { λ r. ⌜ r ≡ validKeys keys ⌝ }
+{
+    if keys.code > 127 {
+        return false;
+    }
+    keys.last <= NONE
+}
+
+// Whether a record is one that a chip can hold: every part is.
 pub fn is_valid(chip: Chip) -> bool
     ensures { λ r. ⌜ r ≡ valid chip ⌝ }
 {
-    if chip.line.register > 4095 {
+    let line = chip.line;
+    if !is_line(line) {
         return false;
     }
-    let readout = chip.line.readout;
-    if !is_readout(readout) {
+    let settings = chip.settings;
+    if !is_settings(settings) {
         return false;
     }
-    if chip.settings.custom > 127 {
-        return false;
-    }
-    if chip.settings.display.limit > 7 {
-        return false;
-    }
-    if chip.keys.code > 127 {
-        return false;
-    }
-    if chip.keys.last > NONE {
-        return false;
-    }
-    true
+    let keys = chip.keys;
+    is_keys(keys)
 }
 
 // A command applied directly, as a LOAD rise applies it: refusals 12, 9.

@@ -22,9 +22,9 @@ use Rattle.base.proofs.Picks.{pick-cases}
 use Rattle.word.specs.Words.{decodedOf}
 use Rattle.word.specs.declared.Command.{Command}
 use Rattle.chip.specs.declared.Chip.{Chip}
-use Rattle.chip.specs.Record.{Body, bodyOf, resetChip}
+use Rattle.chip.specs.Record.{Body, bodyOf, resetChip, withLine}
 use Rattle.chip.specs.Commands.{appliedWord, dout}
-use Rattle.chip.specs.Edges.{din, loadRises, clocked, withLine, loaded, stepped}
+use Rattle.chip.specs.Edges.{din, loadRises, clocked, loaded, stepped}
 use Rattle.chip.specs.Scans.{result, scanned}
 use Rattle.chip.specs.History.{Step, after}
 use Rattle.chip.proofs.Quiet.{stepped-load, body-word, loaded-register, keyb-scanned, line-scanned}

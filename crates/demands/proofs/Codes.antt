@@ -17,9 +17,8 @@ use Rattle.base.specs.Bits.{digit}
 use Rattle.base.specs.Pick.{pick}
 use Rattle.base.proofs.Picks.{pick-yes, pick-no, pick-cases}
 use Rattle.chip.specs.declared.Chip.{Chip}
-use Rattle.chip.specs.Record.{Body, bodyOf, none}
+use Rattle.chip.specs.Record.{Body, bodyOf, none, withKeys}
 use Rattle.chip.specs.Scans.{Recording, nothing, keyCode, result, codeOf, newKey, keyed, scannedBy, recordedBy, scanned, recorded}
-use Rattle.chip.specs.Commands.{withKeys}
 use Rattle.chip.specs.History.{Step, told, scan, after, recordsOf, isKey, countOf, times, resultsOf, Each}
 use Rattle.chip.proofs.OneScan.{scanned-on, keyed-code, none-not-new, address-not-none}
 use Rattle.chip.proofs.Once.{once, once-broken}

@@ -96,32 +96,30 @@ legal-tests (LoadDigit dig byte) = both-tests (leb-tests dig 7) (leb-tests byte 
 -- the tests of a record, one after another
 abbrev SixUnheld : Chip → Type 0
 SixUnheld c =
-    (((((4095 < c .line .register)
+    (((4095 < c .line .register)
     ⊎ ((7 < c .line .readout .left) ⊎ ((c .line .readout .left ≡ 0 → ⊥) × (127 < c .line .readout .code))))
-    ⊎ (127 < c .settings .custom))
-    ⊎ (7 < c .settings .display .limit))
-    ⊎ (127 < c .keys .code))
-    ⊎ (none < c .keys .last)
+    ⊎ ((127 < c .settings .custom) ⊎ (7 < c .settings .display .limit)))
+    ⊎ ((127 < c .keys .code) ⊎ (none < c .keys .last))
 
 to-unheld : (c : Chip) → SixUnheld c → Unheld c
-to-unheld c (inl (inl (inl (inl (inl h))))) = register h
-to-unheld c (inl (inl (inl (inl (inr (inl h)))))) = left h
-to-unheld c (inl (inl (inl (inl (inr (inr y)))))) =
+to-unheld c (inl (inl (inl h))) = register h
+to-unheld c (inl (inl (inr (inl h)))) = left h
+to-unheld c (inl (inl (inr (inr y)))) =
     let ne = y .0 in
     by-order (c .line .readout .left) 0 (λ l. absurd (ne (omega arith))) (λ l. readout l (y .1))
-to-unheld c (inl (inl (inl (inr h)))) = custom h
-to-unheld c (inl (inl (inr h))) = limit h
-to-unheld c (inl (inr h)) = code h
-to-unheld c (inr h) = last (λ e. omega arith) (omega arith)
+to-unheld c (inl (inr (inl h))) = custom h
+to-unheld c (inl (inr (inr h))) = limit h
+to-unheld c (inr (inl h)) = code h
+to-unheld c (inr (inr h)) = last (λ e. omega arith) (omega arith)
 
 from-unheld : (c : Chip) → Unheld c → SixUnheld c
-from-unheld c (register h) = inl (inl (inl (inl (inl h))))
-from-unheld c (custom h) = inl (inl (inl (inr h)))
-from-unheld c (code h) = inl (inr h)
-from-unheld c (limit h) = inl (inl (inr h))
-from-unheld c (readout l h) = inl (inl (inl (inl (inr (inr ((λ e. omega arith), h))))))
-from-unheld c (left h) = inl (inl (inl (inl (inr (inl h)))))
-from-unheld c (last ne h) = by-order (c .keys .last) none (λ l. absurd (ne (omega arith))) (λ l. inr l)
+from-unheld c (register h) = inl (inl (inl h))
+from-unheld c (custom h) = inl (inr (inl h))
+from-unheld c (code h) = inr (inl h)
+from-unheld c (limit h) = inl (inr (inr h))
+from-unheld c (readout l h) = inl (inl (inr (inr ((λ e. omega arith), h))))
+from-unheld c (left h) = inl (inl (inr (inl h)))
+from-unheld c (last ne h) = by-order (c .keys .last) none (λ l. absurd (ne (omega arith))) (λ l. inr (inr l))
 
 pub valid-tests : (c : Chip) → Tests (Unheld c) (valid c)
 unfolding valid
@@ -130,14 +128,10 @@ valid-tests c =
     same-tests (to-unheld c) (from-unheld c)
     (both-tests
     (both-tests
-    (both-tests
-    (both-tests
     (both-tests (leb-tests (c .line .register) 4095)
     (both-tests (leb-tests (r .left) 7) (either-tests (eqb-tests (r .left) 0) (leb-tests (r .code) 127))))
-    (leb-tests (c .settings .custom) 127))
-    (leb-tests (c .settings .display .limit) 7))
-    (leb-tests (c .keys .code) 127))
-    (leb-tests (c .keys .last) none))
+    (both-tests (leb-tests (c .settings .custom) 127) (leb-tests (c .settings .display .limit) 7)))
+    (both-tests (leb-tests (c .keys .code) 127) (leb-tests (c .keys .last) none)))
 
 -- a record below n that no chip can hold
 abbrev SomeUnheld : ℕ → List Chip → Type 0

@@ -3,7 +3,7 @@
 use mathlib.Core.Path.{ap, sym, _∙_}
 use borrow.Author.Tests.{lt-ltb, le-ltb, not-true, not-false}
 use Rattle.base.proofs.Picks.{pick-yes, pick-no}
-use Rattle.chip.specs.Commands.{withKeys}
+use Rattle.chip.specs.Record.{withKeys}
 use Rattle.chip.specs.declared.Keys.{Keys}
 use borrow.Author.Needs.{needs}
 use Rattle.chip.proofs.scans.scanned_by.Statement.{statement}
