@@ -1,8 +1,7 @@
 -- Tests over all numbers below a bound, which the checker computes.
 -- Assumes nothing.
 use Prim.Native.Nat.{ℕ, zero, suc, _+_}
-use mathlib.Core.Bool.{Bool, true, false, _&&_}
-use Rattle.base.specs.Pick.{pick}
+use mathlib.Core.Bool.{Bool, true, _&&_}
 use Rattle.base.specs.Bits.{digit}
 
 -- the test passes at each number below n

@@ -20,7 +20,7 @@ use Rattle.chip.specs.declared.Chip.{Chip}
 use Rattle.chip.specs.Commands.{dout}
 use Rattle.chip.specs.Edges.{din, dclk, dclkRises, dclkFalls, loadRises, shifted, clocked, stepped}
 use Rattle.chain.specs.declared.Chain.{Chain}
-use Rattle.chain.specs.Chain.{steppedRow, steppedChain, played}
+use Rattle.chain.specs.Chain.{steppedRow, played}
 use Rattle.chain.proofs.Rest.{play-more}
 
 -- what rises does not fall

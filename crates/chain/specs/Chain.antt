@@ -1,7 +1,7 @@
 -- Document 01, "The panel" and "Samples and edges": a chain of chips, what one sample does to it, and what a block does.
 -- Assumes nothing.
 use Prim.Native.Nat.{ℕ, zero, suc}
-use mathlib.Core.Bool.{Bool, true, false, _&&_}
+use mathlib.Core.Bool.{Bool, true, _&&_}
 use mathlib.Core.List.{List, [], _∷_}
 use lib.Dec.{leb}
 use Rattle.base.specs.Pick.{pick}

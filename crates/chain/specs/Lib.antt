@@ -3,3 +3,4 @@ pub mod Shift
 pub mod Finder
 pub mod Entries
 pub mod Still
+pub mod Events

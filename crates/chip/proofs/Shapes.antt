@@ -1,12 +1,8 @@
 -- A BCD code's shape has seven bits.
 -- Assumes nothing.
-use mathlib.Core.Path.{_≡_}
 use Prim.Native.Nat.{ℕ, _<_}
-use lib.Dec.{T, eqb, ltb, ltb→lt}
+use lib.Dec.{eqb, ltb, ltb→lt}
 use lib.ListN.{getD}
-use Rattle.base.specs.Pick.{pick}
-use Rattle.base.specs.Bits.{cut}
-use Rattle.base.specs.Below.{below}
 use Rattle.base.proofs.Picks.{pick-cases}
 use Rattle.base.proofs.Cuts.{cut-lt}
 use Rattle.base.proofs.Tests.{at-below}

@@ -1,22 +1,16 @@
 -- Document 01, "What commands do": each command's effect on a chip, what a LOAD rise does with any register, and DOUT.
 -- Assumes nothing.
-use Prim.Native.Nat.{ℕ, _+_, _*_, _-_, _^_}
-use mathlib.Core.Bool.{Bool, true, false, not, _&&_, _||_}
+use Prim.Native.Nat.{ℕ, _+_, _*_, _-_}
+use mathlib.Core.Bool.{Bool, true, false, not}
 use mathlib.Core.List.{List, [], _∷_}
 use lib.Dec.{eqb, ltb}
 use lib.ListN.{getD, set}
 use Rattle.base.specs.Pick.{pick}
 use Rattle.base.specs.Bits.{bit, byteOf}
 use Rattle.base.specs.Refusals.{Told, done, refused}
-use Rattle.word.specs.Words.{decodedOf}
 use Rattle.word.specs.declared.System.{System}
-use Rattle.word.specs.declared.Display.{Display}
 use Rattle.word.specs.declared.Command.{Command}
 use Rattle.word.specs.declared.Command.the-variants.{NoOperation, BarLevel, SegmentClear, SegmentSet, Reset, Sleep, ShiftLeft, ShiftRight, RotateLeft, RotateRight, CustomCharacter, SystemParameters, DisplayParameters, BlinkByte, ReadKey, LoadDigit}
-use Rattle.chip.specs.declared.Readout.{Readout}
-use Rattle.chip.specs.declared.LineParts.{LineParts}
-use Rattle.chip.specs.declared.Settings.{Settings}
-use Rattle.chip.specs.declared.Keys.{Keys}
 use Rattle.chip.specs.declared.Chip.{Chip}
 use Rattle.chip.specs.Record.{none, resetSettings, blank, resetKeys, withSettings, withDigits, withKeys, withSystem, withDisplay, withBlink, withCustom, withSleeping, withInterrupt, withLast, withReadout, endedReadout}
 

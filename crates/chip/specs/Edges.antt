@@ -1,7 +1,7 @@
 -- Document 01, "Samples and edges": what one sample does to one chip, given the levels before it and what stands at its DIN.
 -- Assumes nothing.
 use Prim.Native.Nat.{ℕ, _+_, _*_, _-_, _/_}
-use mathlib.Core.Bool.{Bool, true, false, not, _&&_}
+use mathlib.Core.Bool.{Bool, not, _&&_}
 use Rattle.base.specs.Pick.{pick}
 use Rattle.base.specs.Bits.{bit, digit}
 use Rattle.word.specs.Words.{decodedOf}

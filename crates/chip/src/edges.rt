@@ -1,7 +1,6 @@
 // Samples and edges: what one sample does to one chip.
 use crate::Chip;
 use crate::LineParts;
-use crate::Readout;
 use crate::commands;
 ghost use mathlib.Core.Path.{_≡_};
 ghost use Prim.Native.Nat.{_-_};

@@ -2,8 +2,7 @@
 use crate::Chip;
 use crate::Settings;
 ghost use mathlib.Core.Path.{_≡_};
-ghost use Prim.Native.Nat.{_≤_, _<_};
-ghost use lib.ListN.{getD};
+ghost use Prim.Native.Nat.{_<_};
 ghost use Rattle.chip.specs.Segments as L;
 
 // Segments G to A of the BCD codes 00H to 1FH; the place of 1EH, the custom character, is not looked at.

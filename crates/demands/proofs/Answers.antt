@@ -15,7 +15,7 @@ use Rattle.chip.specs.Segments.{litOf}
 use Rattle.chain.specs.Chain.{steppedChain}
 use Rattle.chain.specs.Entries.{chipAt}
 use Rattle.chain.proofs.Laws.{quiet-chain, one-alone}
-use Rattle.demands.specs.Events.{samplesIn}
+use Rattle.chain.specs.Events.{samplesIn}
 use Rattle.demands.specs.Answers.{OnlyLoadRises, ScansChangeNoDigit, ScansChangeOneChip, EachTookItsOwn}
 use Rattle.writer.specs.Rows.{rowsOf}
 use Rattle.demands.proofs.Demand3.{demand-3}

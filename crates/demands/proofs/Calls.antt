@@ -38,8 +38,9 @@ use Rattle.writer.specs.Rows.{rowsOf, written, listTest}
 use Rattle.writer.specs.Written.{writtenTells, room, answerBy, answerOf, bytesBy}
 use Rattle.writer.specs.Written as Writer
 use Rattle.writer.proofs.Stretches.{samples-length}
-use Rattle.demands.specs.Events.{Event, sample, happened, samplesIn, ScansBelow, rowsAfter}
-use Rattle.demands.specs.Events as Events
+use Rattle.demands.specs.Events.{rowsAfter}
+use Rattle.chain.specs.Events as Events
+use Rattle.chain.specs.Events.{Event, sample, happened, samplesIn, ScansBelow}
 use Rattle.demands.specs.Demand3.{AskedChain, Asked}
 use Rattle.demands.specs.Calls.{Call, play, scan, eventsOf, blocksOf, Ran, over, played, scanned, AllDone, AsTold, Demand3OfCalls, CallsRun}
 use Rattle.demands.proofs.Writes.{Writes}
@@ -183,7 +184,7 @@ module _ (n : ℕ) (ch : Chain) (ws : List ℕ) (a : AskedChain n ch) (part : Li
   as-told : (calls : List Call) (rest : List ℕ) → ScansBelow n (eventsOf calls) → blocksOf calls ++ rest ≡ part
       → (ch′ : Chain) (ran : Ran n ch calls ch′) → AsTold n ch ws calls ch′ ran
   as-told calls rest below begin ch′ ran =
-      let all = ran-happened n (Three.room n ch ws asked) (a .count) rest ran (rowsOf n ws) (blocks-begin calls rest begin) below in
+      let all = ran-happened n (Three.room n ch ws asked) (a .panel .count) rest ran (rowsOf n ws) (blocks-begin calls rest begin) below in
       record {
         answered = all .0;
         chain = all .1;
@@ -196,7 +197,7 @@ module _ (n : ℕ) (ch : Chain) (ws : List ℕ) (a : AskedChain n ch) (part : Li
   -- results of the calls
   some-run : (calls : List Call) (rest : List ℕ) → ScansBelow n (eventsOf calls) → blocksOf calls ++ rest ≡ part → (ch′ : Chain) × Ran n ch calls ch′
   some-run calls rest below begin =
-      run-calls n (Three.room n ch ws asked) (a .count) rest calls ch (rowsOf n ws) (blocks-begin calls rest begin) below
+      run-calls n (Three.room n ch ws asked) (a .panel .count) rest calls ch (rowsOf n ws) (blocks-begin calls rest begin) below
 
 pub demand-3-of-calls : Demand3OfCalls
 demand-3-of-calls n ch ws a out out′ r count w e =

@@ -34,7 +34,8 @@ use Rattle.chain.specs.Shift.{KeypadLast, heldOf, held}
 use Rattle.chain.specs.Entries.{chipAt, withChip}
 use Rattle.chain.proofs.Laws.{quiet-chain, keypad-kept, one-alone}
 use Rattle.chain.proofs.Rest.{row-length}
-use Rattle.demands.specs.Events.{wordFor, commandOf, toldAt, scanAt}
+use Rattle.chain.specs.Events.{scanAt}
+use Rattle.demands.specs.Events.{wordFor, commandOf, toldAt}
 use Rattle.demands.proofs.Writes.{registersIn, AtSample}
 use Rattle.demands.proofs.Accepted.{Fit, Fits, keyb-applied}
 

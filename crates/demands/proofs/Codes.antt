@@ -25,9 +25,9 @@ use Rattle.chip.proofs.Once.{once, once-broken}
 use Rattle.chain.specs.declared.Chain.{Chain}
 use Rattle.chain.specs.Chain.{most}
 use Rattle.chain.specs.Entries.{chipAt}
-use Rattle.demands.specs.Events.{Event, happened}
-use Rattle.demands.specs.Events as Events
-use Rattle.demands.specs.Answers.{historyOf, recordsIn, codesIn, AtMostOne, ExactlyOne, OneCode, OneCodeExactly, OneCodeBroken, OneCodeBrokenExactly}
+use Rattle.chain.specs.Events as Events
+use Rattle.chain.specs.Events.{Event, happened, historyOf, recordsIn, codesIn}
+use Rattle.demands.specs.Answers.{AtMostOne, ExactlyOne, OneCode, OneCodeExactly, OneCodeBroken, OneCodeBrokenExactly}
 use Rattle.demands.proofs.Corollaries.{happened-append}
 use Rattle.demands.proofs.Histories.{times-append, history-append, history-body, records-same}
 

@@ -10,10 +10,11 @@ use mathlib.Core.Path.{_≡_, refl, ap, sym, _∙_}
 use mathlib.Core.Bool.{Bool, true, false}
 use mathlib.Core.List.{List, [], _∷_, _++_, map, append-nil}
 use Prim.Native.Nat.{ℕ, _≤_, _<_}
-use lib.Dec.{eqb}
+use lib.Dec.{leb, eqb}
 use Rattle.base.specs.Pick.{pick}
 use Rattle.base.specs.Refusals.{Told, done, refused}
 use Rattle.base.proofs.Picks.{pick-cases}
+use Rattle.base.proofs.Tests.{and-left, and-right}
 use Rattle.word.specs.Words.{decodedOf}
 use Rattle.word.specs.declared.Command.{Command}
 use Rattle.chip.specs.Record.{bodyOf, resetChip}
@@ -22,12 +23,13 @@ use Rattle.chip.specs.Scans.{scanned}
 use Rattle.chip.specs.History.{Step}
 use Rattle.chip.specs.History as History
 use Rattle.chain.specs.declared.Chain.{Chain}
-use Rattle.chain.specs.Chain.{most, steppedChain}
+use Rattle.chain.specs.Chain.{most, allValid, steppedChain}
 use Rattle.chain.specs.Shift.{Held}
 use Rattle.chain.specs.Entries.{chipAt, withChip}
 use Rattle.chain.proofs.Laws.{quiet-chain}
+use Rattle.chain.specs.Events.{Event, sample, scan, happens, happened, samplesIn, scanAt}
 use Rattle.writer.specs.Rows.{rowsOf, written}
-use Rattle.demands.specs.Events.{Event, sample, scan, happens, happened, samplesIn, commandOf, wordFor, toldAt, rowsAfter, scanAt, stepsFor, commandsIn}
+use Rattle.demands.specs.Events.{commandOf, wordFor, toldAt, rowsAfter, stepsFor, commandsIn}
 use Rattle.demands.specs.Demand3.{Asked, OwnWords, NoOtherSample, PremisesAgain, scansIn, scansOf}
 use Rattle.demands.proofs.Writes.{AtSample}
 use Rattle.demands.proofs.Accepted.{Fit, Fits}
@@ -126,12 +128,17 @@ premises-again n ch ws asked es whole vs accepted =
     let g = in-between n ch ws asked es [] (append-nil (samplesIn es) ∙ whole) in
     record {
       chain = record {
-        count = asked .chain .count;
-        places = g .standing .size;
-        valid = g .standing .valid;
-        dclkHigh = g .writes .1;
-        loadHigh = g .writes .2;
-        keypad = g .standing .keypad;
+        panel = record {
+          count = asked .chain .panel .count;
+          places = g .standing .size;
+          valid = and-left (allValid n (happened n es ch .chips)) (leb (happened n es ch .levels) 7) (g .standing .valid);
+          keypad = g .standing .keypad;
+        };
+        levels = record {
+          small = and-right (allValid n (happened n es ch .chips)) (leb (happened n es ch .levels) 7) (g .standing .valid);
+          dclkHigh = g .writes .1;
+          loadHigh = g .writes .2;
+        };
       };
       accepted = accepted;
     }

@@ -8,15 +8,15 @@ use mathlib.Core.List.{List, [], _∷_, _++_}
 use Prim.Native.Nat.{ℕ, zero, suc, _≤_}
 use lib.Dec.{leb}
 use lib.ListN.{length}
-use Rattle.base.proofs.Tests.{and-left}
+use Rattle.base.proofs.Tests.{and-both}
 use Rattle.chip.specs.declared.Chip.{Chip}
 use Rattle.chain.specs.declared.Chain.{Chain}
 use Rattle.chain.specs.Chain.{most, allValid}
 use Rattle.chain.specs.Shift.{registers, held, AllBelow}
 use Rattle.chain.proofs.Clocks.{registers-below, registers-length}
 use Rattle.chain.proofs.Tested.{count-high}
+use Rattle.chain.specs.Events.{samplesIn}
 use Rattle.writer.specs.Rows.{rowsOf, written}
-use Rattle.demands.specs.Events.{samplesIn}
 use Rattle.demands.specs.Demand3.{Asked, Demand3}
 use Rattle.demands.proofs.Writes.{registersIn, Writes, writes-rows}
 use Rattle.demands.proofs.Accepted.{rows-accepted, fit-rows}
@@ -31,20 +31,20 @@ registers-held (suc n) (c ∷ cs) = ap (λ rs. c .line .register ∷ rs) (regist
 
 module _ (n : ℕ) (ch : Chain) (ws : List ℕ) (asked : Asked n ch ws) where
   pub room : n ≤ most
-  room = count-high n (asked .chain .count)
+  room = count-high n (asked .chain .panel .count)
 
   pub begins : (ss : List ℕ) → ss ≡ written n ws → Going n most ch (rowsOf n ws) ss
   begins ss whole =
       let fit = rows-accepted n ws (asked .accepted) in
       let same = registers-held n (ch .chips) in
       record {
-        standing = record { size = asked .chain .places; valid = asked .chain .valid; keypad = asked .chain .keypad };
+        standing = record { size = asked .chain .panel .places; valid = and-both (allValid n (ch .chips)) (leb (ch .levels) 7) (asked .chain .panel .valid) (asked .chain .levels .small); keypad = asked .chain .panel .keypad };
         fit = fit;
         writes =
             subst (Writes (ch .levels) (held n (ch .chips)) (rowsOf n ws)) (sym whole)
-            (writes-rows n (rowsOf n ws) (ch .levels) (held n (ch .chips)) (asked .chain .dclkHigh) (asked .chain .loadHigh) (fit-rows n (rowsOf n ws) fit)
-            (subst (AllBelow 4096) same (registers-below n (ch .chips) (and-left (allValid n (ch .chips)) (leb (ch .levels) 7) (asked .chain .valid))))
-            (ap length (sym same) ∙ registers-length n (ch .chips) (subst (λ x. n ≤ x) (sym (asked .chain .places)) room)));
+            (writes-rows n (rowsOf n ws) (ch .levels) (held n (ch .chips)) (asked .chain .levels .dclkHigh) (asked .chain .levels .loadHigh) (fit-rows n (rowsOf n ws) fit)
+            (subst (AllBelow 4096) same (registers-below n (ch .chips) (asked .chain .panel .valid)))
+            (ap length (sym same) ∙ registers-length n (ch .chips) (subst (λ x. n ≤ x) (sym (asked .chain .panel .places)) room)));
       }
 
 pub demand-3 : Demand3

@@ -24,8 +24,9 @@ use Rattle.chip.specs.History.{Step, told, scan, after, EachTold}
 use Rattle.chip.proofs.Valid.{applied-valid, scanned-valid}
 use Rattle.chip.proofs.Unique.{record-of, recording-back}
 use Rattle.chip.specs.Edges.{loadRises}
-use Rattle.demands.specs.Events.{Event, sample, commandOf, wordFor, toldAt, rowsAfter, scanAt, stepsFor}
-use Rattle.demands.specs.Events as Events
+use Rattle.demands.specs.Events.{commandOf, wordFor, toldAt, rowsAfter, stepsFor}
+use Rattle.chain.specs.Events as Events
+use Rattle.chain.specs.Events.{Event, sample, scanAt}
 use Rattle.demands.specs.Direct.{Directly, over, applied, scanned, EachAccepted, AcceptedDirectly}
 
 -- a legal command

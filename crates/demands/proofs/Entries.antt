@@ -8,18 +8,19 @@
 use mathlib.Core.Path.{_≡_, refl, ap, _∙_}
 use mathlib.Core.List.{List, [], _∷_, map}
 use Prim.Native.Nat.{ℕ, zero, suc, _<_}
-use lib.Dec.{T}
+use lib.Dec.{T, leb}
 use lib.ListN.{replicate}
 use Rattle.base.specs.Refusals.{done}
+use Rattle.base.proofs.Tests.{and-left}
 use Rattle.chip.specs.Record.{resetChip}
 use Rattle.chip.specs.Scans.{recorded}
 use Rattle.chain.specs.declared.Chain.{Chain}
-use Rattle.chain.specs.Chain.{most, chipCount, testedOf, checkedFrom, steppedChain, played}
+use Rattle.chain.specs.Chain.{most, chipCount, allValid, testedOf, checkedFrom, steppedChain, played}
 use Rattle.chain.specs.Shift.{KeypadLast}
 use Rattle.chain.specs.Entries.{chipAt, startChain, playedOf, scannedOf}
 use Rattle.chain.proofs.Passed.{tests-pass, start-valid, play-done, scan-done}
+use Rattle.chain.specs.Events.{sample, scan, happened}
 use Rattle.writer.specs.Rows.{listTest}
-use Rattle.demands.specs.Events.{sample, scan, happened}
 use Rattle.demands.specs.Demand3.{Asked}
 use Rattle.demands.proofs.Going.{Going}
 
@@ -35,12 +36,13 @@ pub start-asked : (n : ℕ) (ws : List ℕ) → T (chipCount n) → listTest n w
 start-asked n ws count accepted =
     record {
       chain = record {
-        count = count;
-        places = refl;
-        valid = start-valid n;
-        dclkHigh = refl;
-        loadHigh = refl;
-        keypad = resets-off n most;
+        panel = record {
+          count = count;
+          places = refl;
+          valid = and-left (allValid n (startChain .chips)) (leb (startChain .levels) 7) (start-valid n);
+          keypad = resets-off n most;
+        };
+        levels = record { small = tt; dclkHigh = refl; loadHigh = refl };
       };
       accepted = accepted;
     }

@@ -20,7 +20,7 @@ use Rattle.zhaqsumir.specs.Commands.{commandFrom}
 use Rattle.zhaqsumir.specs.Numbers.{numberIn, placeIn, numberOr0, kindAndFields, isRise, risePlace, encodedBy, decodeNumbers, encodeNumbers, findNumbers, WritesNumbers, ReplaysNumbers}
 use Rattle.word.specs.Ranges.{ranges, within, inRange}
 use Rattle.zhaqsumir.proofs.Ranges.{Tells, a-word, nine, encode-ranges}
-use Rattle.demands.specs.Exact.{Row, row, each, None, First, Exactly, SaysExactly, NoneOf}
+use Rattle.demands.specs.Exact.{Row, row, each, None, Exactly, SaysExactly, NoneOf}
 use Rattle.demands.specs.Refusals.{Above, NumbersOutOfRange, BufferShort}
 use Rattle.demands.specs.Tables.{decodeTable, numbersTable, sampleRow, findTable, wordRow, wordRows, writeTable}
 use Rattle.demands.specs.Texts.{lineRow, lineRows, textTable}

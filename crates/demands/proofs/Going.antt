@@ -29,7 +29,8 @@ use Rattle.chain.proofs.Laws.{row-valid}
 use Rattle.chain.proofs.Passed.{scan-valid}
 use Rattle.chain.proofs.Rest.{row-length}
 use Rattle.chain.proofs.Clocks.{held-row}
-use Rattle.demands.specs.Events.{Event, sample, scan, happened, samplesIn, ScansBelow, toldAt, rowsAfter, scanAt, stepsFor}
+use Rattle.chain.specs.Events.{Event, sample, scan, happened, samplesIn, ScansBelow, scanAt}
+use Rattle.demands.specs.Events.{toldAt, rowsAfter, stepsFor}
 use Rattle.demands.proofs.Writes.{AtSample, Writes}
 use Rattle.demands.proofs.Accepted.{Fits}
 use Rattle.demands.proofs.Chips.{sample-body, sample-keypad, scan-body, scan-keypad, scan-held}

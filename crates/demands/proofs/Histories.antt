@@ -31,9 +31,8 @@ use Rattle.chain.specs.Chain.{most, steppedChain}
 use Rattle.chain.specs.Entries.{chipAt, withChip}
 use Rattle.chain.proofs.Laws.{quiet-chain, one-alone}
 use Rattle.chain.proofs.Rest.{row-length}
-use Rattle.demands.specs.Events.{Event, sample, happens, happened}
-use Rattle.demands.specs.Events as Events
-use Rattle.demands.specs.Answers.{obeyed, stepsAt, historyOf, recordsAt, recordsIn}
+use Rattle.chain.specs.Events as Events
+use Rattle.chain.specs.Events.{Event, sample, happens, happened, obeyed, stepsAt, historyOf, recordsAt, recordsIn}
 use Rattle.demands.proofs.Chips.{part-at, obeys-at}
 
 -- ---- a history in two parts

@@ -4,19 +4,18 @@
 --     answer-1-reached      for any chip and any eight bytes there are rows that the writer accepts, after whose play that chip lights these
 -- Assumes nothing.
 use mathlib.Core.Path.{_≡_, refl, ap, ap₂, sym, subst, _∙_}
-use mathlib.Core.Bool.{Bool, true, false, not, _&&_}
+use mathlib.Core.Bool.{true, false, not, _&&_}
 use mathlib.Core.List.{List, [], _∷_, _++_, map, append-nil, nil≢cons}
 use Prim.Native.Nat.{ℕ, zero, suc, _+_, _*_, _/_, _%_, _≤_, _<_}
 use native.Mathlib.Nat.{mul-div-cancel, mul-mod-left}
 use native.Mathlib.Omega.{arith}
 use borrow.Author.Tests.{eq-eqb, le-leb}
-use lib.Dec.{T, leb, eqb, le→leb}
-use lib.ListN.{length, getD, set, take, drop, replicate, length-append, length-set, length-replicate, length-map}
+use lib.Dec.{T, leb, le→leb}
+use lib.ListN.{length, set, replicate, length-append, length-set, length-replicate, length-map}
 use lib.Seq.{take-at, drop-at, getD-set-same}
-use Rattle.base.specs.Pick.{pick}
-use Rattle.base.specs.Refusals.{Told, done, refused}
+use Rattle.base.specs.Refusals.{done, refused}
 use Rattle.base.proofs.Picks.{pick-yes, pick-no}
-use Rattle.base.proofs.Tests.{is-true, and-both}
+use Rattle.base.proofs.Tests.{is-true}
 use Rattle.word.specs.declared.Command.{Command}
 use Rattle.word.specs.declared.Command.the-variants.{NoOperation, Reset, SystemParameters, LoadDigit}
 use Rattle.word.specs.declared.Encoded.the-variants.{Word}
@@ -33,8 +32,9 @@ use Rattle.chain.specs.Chain.{chipCount, played}
 use Rattle.chain.specs.Entries.{chipAt}
 use Rattle.chain.specs.Shift.{AllBelow}
 use Rattle.chain.proofs.Tested.{count-low}
+use Rattle.chain.specs.Events.{Event, sample, happened, samplesIn, ScansBelow}
 use Rattle.writer.specs.Rows.{cutRows, rowsOf, written, keypadOn, forLast, wordTest, orElse, wordsFrom, listTest}
-use Rattle.demands.specs.Events.{Event, sample, happened, samplesIn, ScansBelow, stepsFor, commandsIn}
+use Rattle.demands.specs.Events.{stepsFor, commandsIn}
 use Rattle.demands.specs.Demand3.{AskedChain, Asked, scansIn, scansOf}
 use Rattle.demands.specs.Whole.{Encodes, commandFor}
 use Rattle.demands.specs.Answers.{AnyDisplay}
@@ -186,7 +186,7 @@ after-rows n ch a k h cs few p =
     es = map sample (written n ws)
 
     asked : Asked n ch ws
-    asked = record { chain = a; accepted = rows-accepted-for n k cs (a .count) few p }
+    asked = record { chain = a; accepted = rows-accepted-for n k cs (a .panel .count) few p }
 
     steps : List Step
     steps = stepsFor k (ch .levels) (rowsOf n ws) es
@@ -198,7 +198,7 @@ after-rows n ch a k h cs few p =
     commands =
         commands-told n (rows-for n k cs) ws (encodes-each (rows-for n k cs) (for-sendable n k cs p)) k h (commandsIn steps)
         (own-words n ch ws asked es (samples-of (written n ws)) k h)
-        ∙ ap (λ m. map (commandFor k) (cutRows m n (rows-for n k cs))) (ap (λ x. x / n) (for-length n k cs) ∙ mul-div-cancel (length cs) (count-low n (a .count)))
+        ∙ ap (λ m. map (commandFor k) (cutRows m n (rows-for n k cs))) (ap (λ x. x / n) (for-length n k cs) ∙ mul-div-cancel (length cs) (count-low n (a .panel .count)))
         ∙ ap (map (commandFor k)) (for-rows n k cs)
         ∙ for-commands n k cs h
 
@@ -229,7 +229,7 @@ reached : (n : ℕ) (ch : Chain) → AskedChain n ch → (k : ℕ) → k < n →
 unfolding showing
 reached n ch asked k h a b c d e f g i small = (
   map wordOf (rows-for n k (showing a b c d e f g i)),
-  rows-accepted-for n k (showing a b c d e f g i) (asked .count) few p,
+  rows-accepted-for n k (showing a b c d e f g i) (asked .panel .count) few p,
   after-rows n ch asked k h (showing a b c d e f g i) few p ∙ shown-so a b c d e f g i (chipAt k ch),
 )
   where

@@ -3,9 +3,9 @@
 --     text-kept                     what a refused text leaves
 --     refusals-change-nothing       the theorem
 -- Assumes nothing.
-use mathlib.Core.Path.{_≡_, refl, ap, ap₂, sym, subst, _∙_}
+use mathlib.Core.Path.{_≡_, refl, ap, sym, subst, _∙_}
 use mathlib.Core.Bool.{Bool, true, false}
-use mathlib.Core.List.{List, [], _∷_, _++_}
+use mathlib.Core.List.{List, [], _∷_}
 use Prim.Native.Nat.{ℕ, suc}
 use native.Mathlib.Omega.{arith}
 use lib.Dec.{leb, ltb}
@@ -13,13 +13,11 @@ use lib.ListN.{length, getD, take, drop}
 use lib.Seq.{take-at, drop-at}
 use Rattle.base.specs.Lent.{laid}
 use Rattle.base.specs.Pick.{pick}
-use Rattle.base.specs.Refusals.{Told, done, refused, Outcome, handsBack, verdictTells}
+use Rattle.base.specs.Refusals.{Told, done, refused, Outcome}
 use Rattle.word.specs.declared.Command.{Command}
 use Rattle.word.specs.Words.{decodedOf, legal}
-use Rattle.chip.specs.declared.Chip.{Chip}
 use Rattle.chip.specs.Record.{valid}
 use Rattle.chip.specs.Entries as One
-use Rattle.chain.specs.declared.Chain.{Chain}
 use Rattle.chain.specs.Chain.{chipCount, checkedFrom, testedOf}
 use Rattle.chain.specs.Finder.{Report, reported, noReport, lookedOf, foundOf}
 use Rattle.chain.specs.Entries.{after, startedOf, playedOf, scannedOf, appliedOf, segmentsOf, seenOf}
@@ -27,11 +25,9 @@ use Rattle.writer.specs.Rows.{written}
 use Rattle.writer.specs.Written.{answerOf, bytesBy}
 use Rattle.capture.specs.declared.Report as Capture
 use Rattle.capture.specs.declared.Report.the-variants.{Words, Screen}
-use Rattle.capture.specs.Reports.{refusalLine}
 use Rattle.capture.specs.Replay.{endOf, outputOf}
 use Rattle.zhaqsumir.specs.Commands.{commandIn}
 use Rattle.zhaqsumir.specs.Numbers.{numberIn, placeIn, decodeBy, alone, encodedBy, findBy}
-use Rattle.demands.specs.Texts.{wroteBefore}
 use Rattle.demands.specs.Unchanged.{HandsBack, Refuses, TextRefused, RefusalsChangeNothing}
 use Rattle.demands.proofs.ExactText.{text-exact}
 use Rattle.demands.proofs.TextOutput.{text-output}

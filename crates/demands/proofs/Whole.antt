@@ -12,7 +12,7 @@ use mathlib.Core.List.{List, [], _∷_, _++_, map, append-nil, head-eq-of-cons-e
 use Prim.Native.Nat.{ℕ, zero, suc, _+_, _*_, _/_, _%_, _≤_, _<_}
 use native.Mathlib.Nat.{not-suc-le-zero, le-of-suc-le-suc, lt-of-lt-of-le, div-mul-le-self}
 use native.Mathlib.Omega.{arith}
-use lib.Dec.{T, leb}
+use lib.Dec.{T}
 use lib.ListN.{length, getD, take, drop, length-drop}
 use lib.Seq.{getD-take, getD-drop}
 use Rattle.base.specs.Pick.{pick}
@@ -30,8 +30,9 @@ use Rattle.chain.specs.declared.Chain.{Chain}
 use Rattle.chain.specs.Chain.{allValid}
 use Rattle.chain.specs.Entries.{chipAt}
 use Rattle.writer.specs.Rows.{cutRows, rowsOf, written, listTest}
-use Rattle.demands.specs.Events.{Event, sample, happened, samplesIn, ScansBelow, wordFor}
-use Rattle.demands.specs.Events as Events
+use Rattle.demands.specs.Events.{wordFor}
+use Rattle.chain.specs.Events as Events
+use Rattle.chain.specs.Events.{Event, sample, happened, samplesIn, ScansBelow}
 use Rattle.demands.specs.Demand3.{AskedChain, Asked}
 use Rattle.demands.specs.Calls.{eventsOf, blocksOf}
 use Rattle.demands.specs.Direct.{AcceptedDirectly}
@@ -75,7 +76,7 @@ module _ (n : ℕ) (ch : Chain) (ws : List ℕ) (a : AskedChain n ch) (accepted 
   rises-so : (ss : List ℕ) → ss ≡ written n ws → (p : ℕ) → p < length ss → RisesAt (ch .levels) ss p ↔ ((p + 1) % (24 * n + 2) ≡ 0)
   rises-so ss e p h =
       subst (λ xs. RisesAt (ch .levels) xs p ↔ ((p + 1) % (24 * n + 2) ≡ 0)) (sym e)
-      (rises-place n (rowsOf n ws) (ch .levels) p (a .loadHigh) (fit-rows n (rowsOf n ws) (rows-accepted n ws accepted)) (subst (λ xs. p < length xs) e h))
+      (rises-place n (rowsOf n ws) (ch .levels) p (a .levels .loadHigh) (fit-rows n (rowsOf n ws) (rows-accepted n ws accepted)) (subst (λ xs. p < length xs) e h))
 
   -- what stands after a beginning
   meanwhile-so : (es before later : List Event) → samplesIn es ≡ written n ws → ScansBelow n es → before ++ later ≡ es → (k : ℕ) → k < n
@@ -87,8 +88,8 @@ module _ (n : ℕ) (ch : Chain) (ws : List ℕ) (a : AskedChain n ch) (accepted 
   directly-so : (es : List Event) (k : ℕ) → k < n → AcceptedDirectly (chipAt k ch) (ownSteps k n ch ws es)
   directly-so es k h =
       accepted-directly (chipAt k ch) (ownSteps k n ch ws es)
-      (valid-at n k (ch .chips) resetChip (and-left (allValid n (ch .chips)) (leb (ch .levels) 7) (a .valid)) h
-      (subst (λ m. k < m) (sym (a .places)) (lt-of-lt-of-le h (room n ch ws asked))))
+      (valid-at n k (ch .chips) resetChip (a .panel .valid) h
+      (subst (λ m. k < m) (sym (a .panel .places)) (lt-of-lt-of-le h (room n ch ws asked))))
       (legal-steps k (ch .levels) (rowsOf n ws) es)
 
 pub demand-3-whole : Demand3Whole

@@ -6,25 +6,21 @@ use mathlib.Core.Bool.{true, false}
 use mathlib.Core.Logic.{_⊎_}
 use mathlib.Core.List.{List, [], _∷_, _++_, map}
 use Prim.Native.Nat.{ℕ, _≤_, _<_}
-use lib.Dec.{eqb}
 use lib.ListN.{length}
-use Rattle.base.specs.Pick.{pick}
-use Rattle.base.specs.Refusals.{Told, done, refused}
-use Rattle.word.specs.declared.Command.{Command}
-use Rattle.word.specs.declared.Command.the-variants.{NoOperation}
-use Rattle.word.specs.Words.{decodedOf}
+use Rattle.base.specs.Refusals.{done}
 use Rattle.chip.specs.declared.Chip.{Chip}
 use Rattle.chip.specs.Record.{none, bodyOf}
 use Rattle.chip.specs.Edges.{loadRises}
-use Rattle.chip.specs.Scans.{Recording, nothing, keyCode, result, scanned, recorded, codeOf}
+use Rattle.chip.specs.Scans.{result, scanned, codeOf}
 use Rattle.chip.specs.Segments.{litOf}
-use Rattle.chip.specs.History.{Step, told, NoReset, OneKey, Undisturbed, BrokenPress}
+use Rattle.chip.specs.History.{Step, NoReset, OneKey, Undisturbed, BrokenPress}
 use Rattle.chain.specs.declared.Chain.{Chain}
 use Rattle.chain.specs.Chain.{most, steppedChain, played}
 use Rattle.chain.specs.Entries.{chipAt, withChip}
 use Rattle.chain.specs.Shift.{AllBelow}
+use Rattle.chain.specs.Events.{Event, scan, happened, samplesIn, ScansBelow, historyOf, recordsIn, codesIn}
 use Rattle.writer.specs.Rows.{rowsOf, written, listTest}
-use Rattle.demands.specs.Events.{Event, sample, scan, happens, happened, samplesIn, ScansBelow, scanAt, stepsFor}
+use Rattle.demands.specs.Events.{stepsFor}
 use Rattle.demands.specs.Demand3.{AskedChain, Asked, TookItsOwn}
 
 -- ---- 1: which levels on the wires can change the display
@@ -56,38 +52,6 @@ AnyDisplay =
     → (ws : List ℕ) × (listTest n ws ≡ done tt) × (litOf (chipAt k (played n (written n ws) ch)) ≡ bytes)
 
 -- ---- 2: how many codes one press gives
-
--- what a LOAD rise makes a chip obey; an unlisted word does what no operation does
-abbrev pub obeyed : Told Command → Command
-obeyed (done command) = command
-obeyed (refused number place) = NoOperation
-
--- what one event is for chip k: at a LOAD rise the command that is then in its register, a scan of its own; else nothing
-abbrev pub stepsAt : ℕ → ℕ → Event → Chain → List Step
-stepsAt k n (sample s) ch =
-    pick (loadRises (ch .levels) s) (told (obeyed (decodedOf (chipAt k (steppedChain n s ch) .line .register))) ∷ []) []
-stepsAt k n (scan j bytes) ch = scanAt k j bytes
-
--- what happens to chip k, whatever is played and scanned
-abbrev pub historyOf : ℕ → ℕ → List Event → Chain → List Step
-historyOf k n [] ch = []
-historyOf k n (e ∷ es) ch = stepsAt k n e ch ++ historyOf k n es (happens n e ch)
-
--- what one event records on chip k: what a scan of its own does
-abbrev pub recordsAt : ℕ → Event → Chain → List Recording
-recordsAt k (sample s) ch = []
-recordsAt k (scan j bytes) ch = pick (eqb j k) (recorded bytes (chipAt j ch) ∷ []) []
-
--- what the scans of chip k recorded, in order
-abbrev pub recordsIn : ℕ → ℕ → List Event → Chain → List Recording
-recordsIn k n [] ch = []
-recordsIn k n (e ∷ es) ch = recordsAt k e ch ++ recordsIn k n es (happens n e ch)
-
--- the codes among them, whatever they are: what the till gets of chip k
-abbrev pub codesIn : List Recording → List ℕ
-codesIn [] = []
-codesIn (nothing ∷ rest) = codesIn rest
-codesIn (keyCode code ∷ rest) = code ∷ codesIn rest
 
 -- of chip k of any chain, whatever is played and whatever other chips are scanned: under premises on its history the till gets such codes
 abbrev Codes : (ℕ → List Step → Type 0) → ((n k a : ℕ) → Chain → List Event → Type 0) → Type 0

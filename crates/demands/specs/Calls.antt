@@ -22,8 +22,9 @@ use Rattle.writer.specs.declared.Written.the-variants.{Samples}
 use Rattle.writer.specs.Rows.{rowsOf}
 use Rattle.writer.specs.Written.{Writes}
 use Rattle.demands.specs.Demand3.{AskedChain}
-use Rattle.demands.specs.Events.{Event, sample, happened, ScansBelow, stepsFor}
-use Rattle.demands.specs.Events as Events
+use Rattle.demands.specs.Events.{stepsFor}
+use Rattle.chain.specs.Events as Events
+use Rattle.chain.specs.Events.{Event, sample, happened, ScansBelow}
 
 -- ---- calls
 

@@ -10,7 +10,7 @@ use mathlib.Core.Path.{_≡_}
 use mathlib.Core.Bool.{true, false}
 use mathlib.Core.List.{List, [], _∷_, _++_, map}
 use Prim.Native.Nat.{ℕ, _<_}
-use lib.Dec.{T, eqb}
+use lib.Dec.{T, leb, eqb}
 use lib.ListN.{length}
 use Rattle.base.specs.Pick.{pick}
 use Rattle.base.specs.Refusals.{done}
@@ -21,24 +21,33 @@ use Rattle.chip.specs.Edges.{dclk, load, loadRises}
 use Rattle.chip.specs.History.{Step, told, after}
 use Rattle.chip.specs.History as History
 use Rattle.chain.specs.declared.Chain.{Chain}
-use Rattle.chain.specs.Chain.{most, chipCount, validChain}
+use Rattle.chain.specs.Chain.{most, chipCount, allValid}
 use Rattle.chain.specs.Shift.{KeypadLast}
 use Rattle.chain.specs.Entries.{chipAt}
+use Rattle.chain.specs.Events.{Event, sample, scan, happened, samplesIn, ScansBelow}
 use Rattle.writer.specs.Rows.{rowsOf, written, listTest}
-use Rattle.demands.specs.Events.{Event, sample, scan, happened, samplesIn, ScansBelow, wordFor, stepsFor, commandsIn}
+use Rattle.demands.specs.Events.{wordFor, stepsFor, commandsIn}
 
--- what is asked of a number of chips and a chain
-pub record AskedChain (n : ℕ) (ch : Chain) : Type 0 where
-  -- 1 to 8 chips; the record of a chain always holds 8
+-- what is asked of the panel
+pub record AskedPanel (n : ℕ) (ch : Chain) : Type 0 where
+  -- 1 to 8 chips; the record of a chain always holds the most
   pub count : T (chipCount n)
   pub places : length (ch .chips) ≡ most
   -- in any valid state
-  pub valid : T (validChain n ch)
-  -- DCLK and LOAD high
-  pub dclkHigh : dclk (ch .levels) ≡ true
-  pub loadHigh : load (ch .levels) ≡ true
+  pub valid : T (allValid n (ch .chips))
   -- the keypad enabled on no chip but the last
   pub keypad : KeypadLast n (ch .chips)
+
+-- what is asked of the levels on the wires: at most 7, with DCLK and LOAD high
+pub record AskedLevels (levels : ℕ) : Type 0 where
+  pub small : T (leb levels 7)
+  pub dclkHigh : dclk levels ≡ true
+  pub loadHigh : load levels ≡ true
+
+-- what is asked of a number of chips and a chain
+pub record AskedChain (n : ℕ) (ch : Chain) : Type 0 where
+  pub panel : AskedPanel n ch
+  pub levels : AskedLevels (ch .levels)
 
 -- and of a list of words
 pub record Asked (n : ℕ) (ch : Chain) (ws : List ℕ) : Type 0 where

@@ -10,7 +10,7 @@ use mathlib.Core.Bool.{false}
 use mathlib.Core.List.{List, [], _∷_, _++_}
 use Prim.Native.Nat.{ℕ, suc}
 use lib.ListN.{length, getD, take, drop}
-use Rattle.base.specs.Refusals.{Told, refused, Outcome, verdictTells}
+use Rattle.base.specs.Refusals.{refused, Outcome, verdictTells}
 use Rattle.word.specs.declared.Command.{Command}
 use Rattle.chip.specs.declared.Chip.{Chip}
 use Rattle.chip.specs.declared.Handed as ChipHanded

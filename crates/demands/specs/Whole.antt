@@ -25,11 +25,12 @@ use Rattle.chip.specs.Edges.{loadRises}
 use Rattle.chip.specs.History.{Step, after}
 use Rattle.chain.specs.declared.Chain.{Chain}
 use Rattle.chain.specs.Entries.{chipAt}
+use Rattle.chain.specs.Events.{Event, happened, ScansBelow}
 use Rattle.writer.specs.declared.Written.{Written}
 use Rattle.writer.specs.declared.Written.the-variants.{Samples}
 use Rattle.writer.specs.Rows.{rowsOf}
 use Rattle.writer.specs.Written.{Writes}
-use Rattle.demands.specs.Events.{Event, happened, ScansBelow, stepsFor, commandsIn}
+use Rattle.demands.specs.Events.{stepsFor, commandsIn}
 use Rattle.demands.specs.Demand3.{AskedChain, TookItsOwn, scansIn, scansOf}
 use Rattle.demands.specs.Calls.{Call, eventsOf, blocksOf, Ran, AllDone}
 use Rattle.demands.specs.Direct.{AcceptedDirectly}

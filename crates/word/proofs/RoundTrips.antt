@@ -6,17 +6,16 @@
 --     bars-unlisted     bar levels 65 to 127 are unlisted
 -- Assumes nothing.
 use mathlib.Core.Path.{_≡_, refl, ap, ap₂, sym, subst, _∙_}
-use mathlib.Core.Bool.{Bool, true, false, _&&_}
-use Prim.Native.Nat.{ℕ, _+_, _*_, _^_, _≤_, _<_}
-use lib.Pow.{low}
+use mathlib.Core.Bool.{Bool, true, false}
+use Prim.Native.Nat.{ℕ, _+_, _≤_}
 use native.Mathlib.Omega.{arith}
 use borrow.Author.Tests.{le-leb, lt-leb, eq-eqb, ne-eqb}
 use lib.Dec.{T, leb, eqb, eqb→eq, leb→le}
-use Rattle.base.specs.Bits.{cut, bit, digit}
+use Rattle.base.specs.Bits.{cut, digit}
 use Rattle.base.specs.Below.{below, count}
 use Rattle.base.specs.Refusals.{Told, done, refused}
 use Rattle.base.proofs.Picks.{pick-yes, pick-no}
-use Rattle.base.proofs.Cuts.{digit-lt, cut-zero}
+use Rattle.base.proofs.Cuts.{digit-lt}
 use Rattle.base.proofs.Tests.{at-below, and-left, and-right, by-order}
 use Rattle.word.specs.Words.{decodedOf, wordOf, legal, plain, unlisted}
 use Rattle.word.specs.declared.Command.{Command}

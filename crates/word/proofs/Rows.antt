@@ -3,22 +3,19 @@
 --     no-row         a word that begins as no row is unlisted
 -- Assumes nothing.
 use mathlib.Core.Path.{_≡_, refl, ap, sym, subst, _∙_}
-use mathlib.Core.Bool.{Bool, true, false, not, _&&_}
+use mathlib.Core.Bool.{Bool, true, not, _&&_}
 use mathlib.Core.List.{List, [], _∷_}
-use Prim.Native.Nat.{ℕ, zero, suc, _+_, _-_, _/_, _^_, max, _≤_, _<_}
+use Prim.Native.Nat.{ℕ, zero, suc, _-_, _/_, _^_, max, _≤_, _<_}
 use native.Mathlib.Nat.{not-suc-le-zero, le-of-suc-le-suc, add-sub-of-le, le-max-left, le-max-right}
 use borrow.Author.Tests.{eq-eqb, ne-eqb}
 use lib.Dec.{T, eqb, ltb, ltb→lt, T-not, eqb-refl}
 use lib.Pow.{shr-shr}
 use native.Mathlib.Omega.{arith}
 use lib.ListN.{length, getD}
-use Rattle.base.specs.Pick.{pick}
-use Rattle.base.specs.Refusals.{Told}
 use Rattle.base.proofs.Picks.{pick-yes, pick-no}
 use Rattle.base.specs.Below.{below}
 use Rattle.base.proofs.Tests.{and-left, and-right, at-below}
 use Rattle.word.specs.Words.{Row, table, lookUp, decodedOf, unlisted}
-use Rattle.word.specs.declared.Command.{Command}
 
 -- a word begins as a row
 abbrev pub Begins : ℕ → Row → Type 0

@@ -12,9 +12,13 @@ ghost use Rattle.word.specs.Answers.{decodedTells, encodedTells};
 
 // The most of each field that has a range narrower than its type: a bar level, a segment's address, a custom character, LIMIT, DIG.
 pub const MOST_LEVEL: u8 = 64;
+
 pub const MOST_ADDRESS: u8 = 63;
+
 pub const MOST_SHAPE: u8 = 127;
+
 pub const MOST_LIMIT: u8 = 7;
+
 pub const MOST_DIGIT: u8 = 7;
 
 // System parameters: INTM SSPD DPLR KEYB DISP.

@@ -1,6 +1,6 @@
 -- The contract of `write` allows one outcome: `AllowsOne` of the base crate, of what the generated contract tells; the buffer included.
 -- Assumes nothing.
-use mathlib.Core.Path.{_≡_, refl, ap, sym, _∙_}
+use mathlib.Core.Path.{_≡_, refl, ap}
 use Prim.Native.Nat.{ℕ}
 use Rattle.base.specs.Refusals.{Told, done, refused}
 use Rattle.base.specs.Unique.{AllowsOne}

@@ -5,15 +5,13 @@
 --     of-kind               a kind that is the one asked for
 --     no-such-kind          refusal 9 for every kind above 15, whatever the fields
 -- Assumes nothing.
-use mathlib.Core.Path.{_≡_, refl, ap, sym, _∙_}
+use mathlib.Core.Path.{_≡_, ap, sym, _∙_}
 use mathlib.Core.Bool.{true}
 use Prim.Native.Nat.{ℕ, _%_, _≤_, _<_}
-use lib.Dec.{eqb}
 use lib.ListN.{List·getD-eq-default}
 use native.Mathlib.Nat.{mod-eq-of-lt}
 use native.Mathlib.Omega.{arith}
-use borrow.Author.Tests.{le-leb, lt-leb, ne-eqb}
-use Rattle.base.specs.Pick.{pick}
+use borrow.Author.Tests.{le-leb, lt-leb}
 use Rattle.base.specs.Refusals.{Told, done, refused}
 use Rattle.base.proofs.Picks.{pick-yes, pick-no}
 use Rattle.base.proofs.Tests.{by-order}

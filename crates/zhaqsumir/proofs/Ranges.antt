@@ -7,8 +7,7 @@
 use mathlib.Core.Path.{_≡_, refl, ap, sym, subst, _∙_}
 use mathlib.Core.Bool.{Bool, true, false, _&&_}
 use mathlib.Core.List.{List, [], _∷_}
-use Prim.Native.Nat.{ℕ, suc, _≤_, _<_, zero-le}
-use native.Mathlib.Omega.{arith}
+use Prim.Native.Nat.{ℕ, _≤_}
 use borrow.Author.Tests.{le-leb, lt-leb}
 use lib.Dec.{eqb, leb}
 use lib.ListN.{getD}
@@ -69,23 +68,52 @@ module _ (a b c d e : ℕ) where
   -- kinds 15 down to 0
   all-kinds : EachBelow Kind 16
   unfolding commandFrom
-  all-kinds =
-      (digit-byte a b,
-      (tells-word ReadKey refl,
-      (one-field 255 a (BlinkByte a) refl,
-      (one-bit a _ _ (one-field 7 b (DisplayParameters (record { mode = eqb a 1; limit = b })) refl),
-      (one-bit a _ _ (one-bit b _ _ (one-bit c _ _ (one-bit d _ _ (one-bit e _ _ (tells-word (SystemParameters (record { intm = eqb a 1; sspd = eqb b 1; dplr = eqb c 1; keyb = eqb d 1; disp = eqb e 1 })) refl))))),
-      (one-field 127 a (CustomCharacter a) refl,
-      (tells-word RotateRight refl,
-      (tells-word RotateLeft refl,
-      (tells-word ShiftRight refl,
-      (tells-word ShiftLeft refl,
-      (tells-word Sleep refl,
-      (tells-word Reset refl,
-      (one-field 63 a (SegmentSet a) refl,
-      (one-field 63 a (SegmentClear a) refl,
-      (one-field 64 a (BarLevel a) refl,
-      (tells-word NoOperation refl, tt))))))))))))))))
+  all-kinds = (
+    digit-byte a b,
+    (
+      tells-word ReadKey refl,
+      (
+        one-field 255 a (BlinkByte a) refl,
+        (
+          one-bit a _ _ (one-field 7 b (DisplayParameters (record { mode = eqb a 1; limit = b })) refl),
+          (
+            one-bit a _ _ (one-bit b _ _ (one-bit c _ _ (one-bit d _ _ (one-bit e _ _ (tells-word (SystemParameters (record { intm = eqb a 1; sspd = eqb b 1; dplr = eqb c 1; keyb = eqb d 1; disp = eqb e 1 })) refl))))),
+            (
+              one-field 127 a (CustomCharacter a) refl,
+              (
+                tells-word RotateRight refl,
+                (
+                  tells-word RotateLeft refl,
+                  (
+                    tells-word ShiftRight refl,
+                    (
+                      tells-word ShiftLeft refl,
+                      (
+                        tells-word Sleep refl,
+                        (
+                          tells-word Reset refl,
+                          (
+                            one-field 63 a (SegmentSet a) refl,
+                            (
+                              one-field 63 a (SegmentClear a) refl,
+                              (
+                                one-field 64 a (BarLevel a) refl,
+                                (tells-word NoOperation refl, tt),
+                              ),
+                            ),
+                          ),
+                        ),
+                      ),
+                    ),
+                  ),
+                ),
+              ),
+            ),
+          ),
+        ),
+      ),
+    ),
+  )
 
   pub encode-ranges : (kind : ℕ) → Kind kind
   encode-ranges kind =

@@ -4,7 +4,6 @@
 // include/zhaqsumir.h is their header.
 mod commands;
 
-use base::Refusal;
 use base::Verdict;
 use capture::Replayed;
 use chain::finder::Found;

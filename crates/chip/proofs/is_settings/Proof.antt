@@ -1,9 +1,6 @@
 -- `chip::is_settings` meets its contract: its tests are the definition's.
 -- Assumes nothing.
-use mathlib.Core.Path.{ap₂}
-use mathlib.Core.Bool.{_&&_}
 use borrow.Author.Tests.{le-leb, lt-leb}
-use borrow.Author.Needs.{needs}
 use Rattle.chip.proofs.is_settings.Statement.{statement}
 use Rattle.chip.proofs.is_settings.Tie as tie
 

@@ -3,7 +3,6 @@
 use mathlib.Core.Path.{sym}
 use native.Mathlib.Omega.{arith}
 use Rattle.word.proofs.Rows.{fits-row, no-row}
-use borrow.Author.Needs.{needs}
 use Rattle.word.proofs.reset_or_sleep.Statement.{statement}
 use Rattle.word.proofs.reset_or_sleep.Tie as tie
 

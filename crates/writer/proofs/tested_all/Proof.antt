@@ -1,7 +1,7 @@
 -- `writer::tested_all` meets its contract. The invariant: what the test says of the rest it says of the whole.
 -- Assumes nothing.
 use mathlib.Core.Path.{_≡_, refl, ap, sym, _∙_}
-use Prim.Native.Nat.{ℕ, _+_, _-_, _≤_}
+use Prim.Native.Nat.{_+_, _-_, _≤_}
 use lib.ListN.{length, drop}
 use Rattle.base.specs.Refusals.{Told, verdictTells}
 use Rattle.writer.specs.Rows.{orElse, wordsFrom}

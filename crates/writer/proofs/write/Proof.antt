@@ -9,7 +9,7 @@ use borrow.Author.Tests.{le-leb, lt-leb}
 use lib.Dec.{leb}
 use lib.ListN.{length}
 use Rattle.base.specs.Pick.{pick}
-use Rattle.base.specs.Refusals.{Told, done, refused, verdictTells, refusedBy}
+use Rattle.base.specs.Refusals.{Told, done, refused, verdictTells}
 use Rattle.base.specs.declared.Refusal.the-variants.{Room}
 use Rattle.base.specs.declared.Verdict.{Verdict}
 use Rattle.base.specs.declared.Verdict.the-variants as Verdicts

@@ -1,7 +1,7 @@
 -- `chain::tests::checked` meets its contract. The invariant: what the test says of the rest it says of the whole.
 -- Assumes nothing.
 use mathlib.Core.Path.{_≡_, refl, sym, _∙_}
-use Prim.Native.Nat.{ℕ, _-_, _≤_}
+use Prim.Native.Nat.{_-_, _≤_}
 use borrow.Author.Tests.{le-leb, lt-leb}
 use lib.ListN.{length, getD, drop}
 use Rattle.base.proofs.Picks.{pick-yes, pick-no}
