@@ -1,6 +1,7 @@
--- Tests over all numbers below a bound, which the checker computes.
+-- Tests and claims of all numbers below a bound, and of lists of such numbers.
 -- Assumes nothing.
-use Prim.Native.Nat.{ℕ, zero, suc, _+_}
+use Prim.Native.Nat.{ℕ, zero, suc, _+_, _<_}
+use mathlib.Core.List.{List, [], _∷_}
 use mathlib.Core.Bool.{Bool, true, _&&_}
 use Rattle.base.specs.Bits.{digit}
 
@@ -18,3 +19,8 @@ count f (suc n) = digit (f n) + count f n
 abbrev pub EachBelow {ℓ} : (ℕ → Type ℓ) → ℕ → Type ℓ
 EachBelow P zero = Unit
 EachBelow P (suc n) = P n × EachBelow P n
+
+-- every number of the list is below m
+abbrev pub AllBelow : ℕ → List ℕ → Type 0
+AllBelow m [] = Unit {0}
+AllBelow m (x ∷ xs) = (x < m) × AllBelow m xs

@@ -19,7 +19,7 @@ use Rattle.chip.specs.Edges.{loadRises}
 use Rattle.chain.specs.declared.Chain.{Chain}
 use Rattle.chain.specs.Chain.{checkedFrom, steppedChain, played}
 use Rattle.chain.specs.Finder.{riseAt, noRise, riseFrom}
-use Rattle.chain.specs.Shift.{AllBelow}
+use Rattle.base.specs.Below.{AllBelow}
 use Rattle.capture.specs.declared.Report.{Report}
 use Rattle.capture.specs.Reports.{atRise}
 use Rattle.capture.specs.Replay.{risesIn}

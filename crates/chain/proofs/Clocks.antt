@@ -20,11 +20,54 @@ use Rattle.base.proofs.Tests.{eq-below, and-left, and-right}
 use Rattle.chip.specs.declared.LineParts.{LineParts}
 use Rattle.chip.specs.declared.Chip.{Chip}
 use Rattle.chip.specs.Record.{valid, withLine}
-use Rattle.chip.specs.Edges.{dclkFalls, dclkRises, loadRises, clocked, clockedIn, clockedOut, loaded, stepped}
+use Rattle.chip.specs.Edges.{dclkFalls, dclkRises, loadRises, clocked, clockedIn, clockedOut, loaded, stepped, shifted}
 use Rattle.chip.proofs.Quiet.{loaded-register, loaded-latch, dout-latch}
 use Rattle.chip.proofs.Valid.{valid-facts}
-use Rattle.chain.specs.Chain.{allValid, steppedRow}
-use Rattle.chain.specs.Shift.{registers, push, AllBelow, KeypadLast, latchRow, Held, heldOf, held, fallen, risen, heldRow}
+use Rattle.chain.specs.Chain.{allValid, steppedRow, KeypadLast}
+use Rattle.chain.proofs.Shift.{push}
+use Rattle.base.specs.Below.{AllBelow}
+
+-- ---- the registers and latches of a chain
+
+-- the registers of the first n chips
+unfoldable pub registers : ℕ → List Chip → List ℕ
+registers zero cs = []
+registers (suc n) [] = []
+registers (suc n) (c ∷ cs) = c .line .register ∷ registers n cs
+
+-- one sample for the first n chips, each but the first taking the latch before it
+unfoldable pub latchRow : ℕ → ℕ → ℕ → Bool → List Chip → List Chip
+latchRow zero was now d cs = cs
+latchRow (suc n) was now d [] = []
+latchRow (suc n) was now d (c ∷ cs) = stepped was now d c ∷ latchRow n was now (c .line .latch) cs
+
+-- the line parts that bits move through: register and latch
+pub record Held : Type 0 where
+  pub register : ℕ
+  pub latch : Bool
+
+-- a chip's register and latch
+abbrev pub heldOf : Chip → Held
+heldOf c = record { register = c .line .register; latch = c .line .latch }
+
+-- the registers and latches of the first n chips
+unfoldable pub held : ℕ → List Chip → List Held
+held zero cs = []
+held (suc n) [] = []
+held (suc n) (c ∷ cs) = heldOf c ∷ held n cs
+
+-- DCLK fall: the latch takes register bit 0
+abbrev pub fallen : Held → Held
+fallen h = record { register = h .register; latch = bit (h .register) 0 }
+
+-- DCLK rise: DIN enters the register
+abbrev pub risen : Bool → Held → Held
+risen d h = record { register = shifted (h .register) d; latch = h .latch }
+
+-- one sample for registers and latches alone
+unfoldable pub heldRow : ℕ → ℕ → Bool → List Held → List Held
+heldRow was now d [] = []
+heldRow was now d (h ∷ hs) = pick (dclkFalls was now) (fallen h) (pick (dclkRises was now) (risen d h) h) ∷ heldRow was now (h .latch) hs
 
 -- ---- registers and latches alone
 

@@ -31,11 +31,16 @@ use Rattle.chip.specs.Edges.{loadRises, din, stepped}
 use Rattle.chip.proofs.Quiet.{quiet}
 use Rattle.chip.proofs.Valid.{stepped-valid}
 use Rattle.chain.specs.declared.Chain.{Chain}
-use Rattle.chain.specs.Chain.{allValid, validChain, checkedFrom, steppedRow, steppedChain, played}
+use Rattle.chain.specs.Chain.{allValid, validChain, checkedFrom, steppedRow, steppedChain, played, KeypadLast}
 use Rattle.chain.specs.Entries.{chipAt, withChip}
-use Rattle.chain.specs.Shift.{AllBelow, KeypadLast, lastOf}
+use Rattle.base.specs.Below.{AllBelow}
 
 -- ---- blocks
+
+-- the last of so many samples, or the levels before them
+unfoldable pub lastOf : ℕ → List ℕ → ℕ
+lastOf levels [] = levels
+lastOf levels (s ∷ ss) = lastOf s ss
 
 pub played-append : (n : ℕ) (xs ys : List ℕ) (ch : Chain) → played n (xs ++ ys) ch ≡ played n ys (played n xs ch)
 unfolding played

@@ -26,7 +26,7 @@ use Rattle.chain.specs.declared.Chain.{Chain}
 use Rattle.chain.specs.Chain.{most, chipCount, allValid, validChain, testedOf, checkedFrom, played}
 use Rattle.chain.specs.Finder.{foundOf, reported, lookedOf}
 use Rattle.chain.specs.Entries.{after, chipAt, withChip, startChain, startedOf, playedOf, scannedOf}
-use Rattle.chain.specs.Shift.{AllBelow}
+use Rattle.base.specs.Below.{AllBelow}
 use Rattle.chain.proofs.Laws.{played-valid}
 use Rattle.chain.proofs.Tested.{tested-done}
 

@@ -1,7 +1,8 @@
 -- Document 01, "The panel" and "Samples and edges": a chain of chips, what one sample does to it, and what a block does.
 -- Assumes nothing.
+use mathlib.Core.Path.{_≡_}
 use Prim.Native.Nat.{ℕ, zero, suc}
-use mathlib.Core.Bool.{Bool, true, _&&_}
+use mathlib.Core.Bool.{Bool, true, false, _&&_}
 use mathlib.Core.List.{List, [], _∷_}
 use lib.Dec.{leb}
 use Rattle.base.specs.Pick.{pick}
@@ -54,3 +55,10 @@ steppedChain n sample ch = record { chips = steppedRow n (ch .levels) sample (di
 unfoldable pub played : ℕ → List ℕ → Chain → Chain
 played n [] ch = ch
 played n (s ∷ ss) ch = played n ss (steppedChain n s ch)
+
+-- of the first n chips none but the last has KEYB on
+abbrev pub KeypadLast : ℕ → List Chip → Type 0
+KeypadLast zero cs = Unit {0}
+KeypadLast (suc zero) cs = Unit {0}
+KeypadLast (suc (suc n)) [] = Unit {0}
+KeypadLast (suc (suc n)) (c ∷ cs) = (c .settings .system .keyb ≡ false) × KeypadLast (suc n) cs

@@ -1,5 +1,4 @@
 pub mod Chain
-pub mod Shift
 pub mod Finder
 pub mod Entries
 pub mod Still

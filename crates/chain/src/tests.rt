@@ -2,7 +2,6 @@
 use crate::Chain;
 use base::Refusal;
 use base::Verdict;
-use chip::Chip;
 ghost use mathlib.Core.Path.{_≡_};
 ghost use Rattle.base.specs.Refusals.{verdictTells};
 ghost use Rattle.chain.specs.Chain as C;

@@ -24,7 +24,7 @@ use Rattle.word.specs.declared.Command.the-variants.{NoOperation, BarLevel, Seg
 use Rattle.word.proofs.Rows.{above-unlisted}
 use Rattle.chip.specs.declared.Chip.{Chip}
 use Rattle.chip.specs.Commands.{applied, obey, reset, system, readKey, woken}
-use Rattle.chain.specs.Shift.{AllBelow}
+use Rattle.base.specs.Below.{AllBelow}
 use Rattle.writer.specs.Rows.{cutRows, rowsOf, keypadOn, forLast, wordTest, orElse, wordsFrom, listTest}
 use Rattle.writer.proofs.Tests.{list-passed}
 use Rattle.demands.specs.Events.{wordFor}

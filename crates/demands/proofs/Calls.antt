@@ -30,7 +30,7 @@ use Rattle.chip.specs.Scans.{recorded}
 use Rattle.chip.proofs.Unique.{record-of, recording-back}
 use Rattle.chain.specs.declared.Chain.{Chain}
 use Rattle.chain.specs.Chain.{most, chipCount, checkedFrom}
-use Rattle.chain.specs.Shift.{Held, heldRow, held}
+use Rattle.chain.proofs.Clocks.{Held, heldRow, held}
 use Rattle.chain.specs.Entries.{chipAt, playedOf, scannedOf}
 use Rattle.writer.specs.declared.Written.{Written}
 use Rattle.writer.specs.declared.Written.the-variants.{Samples}

@@ -29,8 +29,8 @@ use Rattle.chip.specs.Scans.{result, scanned}
 use Rattle.chip.specs.History.{Step, after}
 use Rattle.chip.proofs.Quiet.{stepped-load, body-word, loaded-register, keyb-scanned, line-scanned}
 use Rattle.chain.specs.declared.Chain.{Chain}
-use Rattle.chain.specs.Chain.{steppedRow, steppedChain}
-use Rattle.chain.specs.Shift.{KeypadLast, heldOf, held}
+use Rattle.chain.specs.Chain.{steppedRow, steppedChain, KeypadLast}
+use Rattle.chain.proofs.Clocks.{heldOf, held}
 use Rattle.chain.specs.Entries.{chipAt, withChip}
 use Rattle.chain.proofs.Laws.{quiet-chain, keypad-kept, one-alone}
 use Rattle.chain.proofs.Rest.{row-length}

@@ -24,7 +24,7 @@ use Rattle.chip.specs.History.{Step}
 use Rattle.chip.specs.History as History
 use Rattle.chain.specs.declared.Chain.{Chain}
 use Rattle.chain.specs.Chain.{most, allValid, steppedChain}
-use Rattle.chain.specs.Shift.{Held}
+use Rattle.chain.proofs.Clocks.{Held}
 use Rattle.chain.specs.Entries.{chipAt, withChip}
 use Rattle.chain.proofs.Laws.{quiet-chain}
 use Rattle.chain.specs.Events.{Event, sample, scan, happens, happened, samplesIn, scanAt}

@@ -12,8 +12,8 @@ use Rattle.base.proofs.Tests.{and-both}
 use Rattle.chip.specs.declared.Chip.{Chip}
 use Rattle.chain.specs.declared.Chain.{Chain}
 use Rattle.chain.specs.Chain.{most, allValid}
-use Rattle.chain.specs.Shift.{registers, held, AllBelow}
-use Rattle.chain.proofs.Clocks.{registers-below, registers-length}
+use Rattle.base.specs.Below.{AllBelow}
+use Rattle.chain.proofs.Clocks.{registers-below, registers-length, registers, held}
 use Rattle.chain.proofs.Tested.{count-high}
 use Rattle.chain.specs.Events.{samplesIn}
 use Rattle.writer.specs.Rows.{rowsOf, written}

@@ -13,7 +13,7 @@ use lib.ListN.{length}
 use Rattle.base.specs.Pick.{pick}
 use Rattle.base.proofs.Picks.{pick-yes}
 use Rattle.base.proofs.Tests.{eq-below, by-order, and-left, and-right}
-use Rattle.chain.specs.Shift.{AllBelow}
+use Rattle.base.specs.Below.{AllBelow}
 use Rattle.capture.specs.Lines.{Line, ended, cutOff, digitOf, allDigits, bytesOf, bytesIn, digitFor, digitsFor}
 use Rattle.capture.proofs.Lines.{digit-past}
 

@@ -15,8 +15,7 @@ use Rattle.base.proofs.Tests.{and-left}
 use Rattle.chip.specs.Record.{resetChip}
 use Rattle.chip.specs.Scans.{recorded}
 use Rattle.chain.specs.declared.Chain.{Chain}
-use Rattle.chain.specs.Chain.{most, chipCount, allValid, testedOf, checkedFrom, steppedChain, played}
-use Rattle.chain.specs.Shift.{KeypadLast}
+use Rattle.chain.specs.Chain.{most, chipCount, allValid, testedOf, checkedFrom, steppedChain, played, KeypadLast}
 use Rattle.chain.specs.Entries.{chipAt, startChain, playedOf, scannedOf}
 use Rattle.chain.proofs.Passed.{tests-pass, start-valid, play-done, scan-done}
 use Rattle.chain.specs.Events.{sample, scan, happened}

@@ -22,13 +22,12 @@ use Rattle.chip.specs.History.{Step, told, after}
 use Rattle.chip.specs.History as History
 use Rattle.chip.proofs.Quiet.{body-applied, body-scanned}
 use Rattle.chain.specs.declared.Chain.{Chain}
-use Rattle.chain.specs.Chain.{allValid, validChain, steppedChain}
-use Rattle.chain.specs.Shift.{KeypadLast, held}
+use Rattle.chain.specs.Chain.{allValid, validChain, steppedChain, KeypadLast}
 use Rattle.chain.specs.Entries.{chipAt, withChip}
 use Rattle.chain.proofs.Laws.{row-valid}
 use Rattle.chain.proofs.Passed.{scan-valid}
 use Rattle.chain.proofs.Rest.{row-length}
-use Rattle.chain.proofs.Clocks.{held-row}
+use Rattle.chain.proofs.Clocks.{held-row, held}
 use Rattle.chain.specs.Events.{Event, sample, scan, happened, samplesIn, ScansBelow, scanAt}
 use Rattle.demands.specs.Events.{toldAt, rowsAfter, stepsFor}
 use Rattle.demands.proofs.Writes.{AtSample, Writes}

@@ -1,3 +1,4 @@
+pub mod RowLaw
 pub mod Writes
 pub mod Accepted
 pub mod Chips

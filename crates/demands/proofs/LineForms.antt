@@ -14,7 +14,7 @@ use Rattle.base.specs.Pick.{pick}
 use Rattle.base.specs.Refusals.{Told, IsDone, done, refused}
 use Rattle.base.proofs.Tests.{by-order, by-equality}
 use Rattle.chain.specs.Chain.{chipCount, checkedFrom}
-use Rattle.chain.specs.Shift.{AllBelow}
+use Rattle.base.specs.Below.{AllBelow}
 use Rattle.chain.proofs.Laws.{checked-below}
 use Rattle.capture.specs.Lines.{Line, ended, bytesIn, digitsFor}
 use Rattle.capture.specs.Frames.{Form, samples, scan, other, firstOf, samplesBy, samplesForm, scanForm, formOf}

@@ -14,9 +14,9 @@ use lib.ListN.{length, getD, replicate, length-append, length-replicate, getD-re
 use lib.Seq.{getD-append-add}
 use Rattle.base.proofs.Tests.{by-order}
 use Rattle.chip.specs.Edges.{load, loadRises}
-use Rattle.chain.specs.Shift.{AllBelow, rowBits, clocking}
-use Rattle.chain.proofs.Shift.{row-bits-below}
-use Rattle.writer.specs.Rows.{rowSamples, samplesOf, width}
+use Rattle.base.specs.Below.{AllBelow}
+use Rattle.demands.proofs.RowLaw.{row-bits-below}
+use Rattle.writer.specs.Rows.{rowSamples, samplesOf, width, rowBits, clocking}
 use Rattle.writer.proofs.Filling.{row-samples-length}
 use Rattle.demands.specs.Whole.{RisesAt}
 use Rattle.demands.proofs.Writes.{wires, RowsOf}

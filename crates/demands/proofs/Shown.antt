@@ -30,7 +30,7 @@ use Rattle.chip.proofs.Quiet.{by-body}
 use Rattle.chain.specs.declared.Chain.{Chain}
 use Rattle.chain.specs.Chain.{chipCount, played}
 use Rattle.chain.specs.Entries.{chipAt}
-use Rattle.chain.specs.Shift.{AllBelow}
+use Rattle.base.specs.Below.{AllBelow}
 use Rattle.chain.proofs.Tested.{count-low}
 use Rattle.chain.specs.Events.{Event, sample, happened, samplesIn, ScansBelow}
 use Rattle.writer.specs.Rows.{cutRows, rowsOf, written, keypadOn, forLast, wordTest, orElse, wordsFrom, listTest}

@@ -13,10 +13,11 @@ use lib.ListN.{length}
 use Rattle.base.specs.Bits.{digit}
 use Rattle.base.proofs.Picks.{pick-no}
 use Rattle.chip.specs.Edges.{din, dclk, load, dclkFalls, dclkRises, loadRises}
-use Rattle.chain.specs.Shift.{push, pushes, AllBelow, rowBits, clocking, Held, heldRow}
-use Rattle.chain.proofs.Shift.{row-bits-below, row-law}
-use Rattle.chain.proofs.Clocks.{fall-rise}
-use Rattle.writer.specs.Rows.{rowSamples, samplesOf}
+use Rattle.chain.proofs.Shift.{push, pushes}
+use Rattle.base.specs.Below.{AllBelow}
+use Rattle.demands.proofs.RowLaw.{row-bits-below, row-law}
+use Rattle.chain.proofs.Clocks.{fall-rise, Held, heldRow}
+use Rattle.writer.specs.Rows.{rowSamples, samplesOf, rowBits, clocking}
 use Rattle.demands.specs.Events.{rowsAfter}
 
 -- ---- what samples do that write rows

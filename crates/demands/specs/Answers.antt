@@ -17,7 +17,7 @@ use Rattle.chip.specs.History.{Step, NoReset, OneKey, Undisturbed, BrokenPress}
 use Rattle.chain.specs.declared.Chain.{Chain}
 use Rattle.chain.specs.Chain.{most, steppedChain, played}
 use Rattle.chain.specs.Entries.{chipAt, withChip}
-use Rattle.chain.specs.Shift.{AllBelow}
+use Rattle.base.specs.Below.{AllBelow}
 use Rattle.chain.specs.Events.{Event, scan, happened, samplesIn, ScansBelow, historyOf, recordsIn, codesIn}
 use Rattle.writer.specs.Rows.{rowsOf, written, listTest}
 use Rattle.demands.specs.Events.{stepsFor}

@@ -21,8 +21,7 @@ use Rattle.chip.specs.Edges.{dclk, load, loadRises}
 use Rattle.chip.specs.History.{Step, told, after}
 use Rattle.chip.specs.History as History
 use Rattle.chain.specs.declared.Chain.{Chain}
-use Rattle.chain.specs.Chain.{most, chipCount, allValid}
-use Rattle.chain.specs.Shift.{KeypadLast}
+use Rattle.chain.specs.Chain.{most, chipCount, allValid, KeypadLast}
 use Rattle.chain.specs.Entries.{chipAt}
 use Rattle.chain.specs.Events.{Event, sample, scan, happened, samplesIn, ScansBelow}
 use Rattle.writer.specs.Rows.{rowsOf, written, listTest}

@@ -9,7 +9,7 @@ use lib.Dec.{eqb}
 use lib.ListN.{length, getD, take, drop}
 use Rattle.base.specs.Pick.{pick}
 use Rattle.base.specs.Refusals.{Told, done, refused}
-use Rattle.chain.specs.Shift.{AllBelow}
+use Rattle.base.specs.Below.{AllBelow}
 use Rattle.chain.specs.Entries.{startChain}
 use Rattle.capture.specs.declared.Report.{Report}
 use Rattle.capture.specs.Lines.{Line, ended, linesOf, bytesIn, digitsFor}

@@ -17,9 +17,7 @@ use lib.Seq.{take-all, drop-cons, take-suc-set}
 use Rattle.base.specs.Bits.{cut}
 use Rattle.base.specs.Lent.{placed}
 use Rattle.base.proofs.Lent.{placed-length, placed-take, placed-drop}
-use Rattle.chain.specs.Shift.{wordBits, rowBits, clocking}
-use Rattle.chain.proofs.Shift.{row-length}
-use Rattle.writer.specs.Rows.{rowSamples}
+use Rattle.writer.specs.Rows.{rowSamples, wordBits, rowBits, clocking}
 
 -- ---- bits and samples
 
@@ -62,6 +60,11 @@ pub row-last : (ws : List ℕ) (w : ℕ) → rowBits (ws ++ (w ∷ [])) ≡ word
 unfolding rowBits
 row-last [] w = sym (append-nil (wordBits w))
 row-last (v ∷ ws) w = ap (λ r. r ++ wordBits v) (row-last ws w) ∙ append-assoc (wordBits w) (rowBits ws) (wordBits v)
+
+pub row-length : (ws : List ℕ) → length (rowBits ws) ≡ 12 * length ws
+unfolding rowBits wordBits
+row-length [] = refl
+row-length (w ∷ ws) = omega (arith, length-append (rowBits ws) (wordBits w), row-length ws)
 
 pub row-samples-length : (row : List ℕ) → length (rowSamples row) ≡ 24 * length row + 2
 unfolding rowSamples

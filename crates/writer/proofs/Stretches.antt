@@ -13,8 +13,7 @@ use native.Mathlib.Omega.{arith}
 use lib.ListN.{length, getD, set, take, drop, length-append, length-drop, take-append-drop, drop-of-length-le}
 use lib.Seq.{length-take-le, take-suc, drop-drop, sets-eq}
 use Rattle.base.specs.Lent.{laid}
-use Rattle.chain.specs.Shift.{wordBits, rowBits, clocking}
-use Rattle.writer.specs.Rows.{cutRows, rowSamples, samplesOf, width}
+use Rattle.writer.specs.Rows.{cutRows, rowSamples, samplesOf, width, wordBits, rowBits, clocking}
 use Rattle.writer.proofs.Filling.{clocking-append, clocking-length, word-length, row-last, row-samples-length, put, put-take, put-drop}
 
 -- ---- one row

@@ -5,13 +5,13 @@ use mathlib.Core.Bool.{Bool, false, not, _&&_}
 use mathlib.Core.List.{List, [], _∷_, _++_}
 use lib.Dec.{eqb, leb}
 use lib.ListN.{length, take, drop}
+use Rattle.base.specs.Bits.{cut}
 use Rattle.base.specs.Pick.{pick}
 use Rattle.base.specs.Refusals.{Told, done, refused}
 use Rattle.word.specs.declared.Command.{Command}
 use Rattle.word.specs.declared.Command.the-variants.{NoOperation, BarLevel, SegmentClear, SegmentSet, Reset, Sleep, ShiftLeft, ShiftRight, RotateLeft, RotateRight, CustomCharacter, SystemParameters, DisplayParameters, BlinkByte, ReadKey, LoadDigit}
 use Rattle.word.specs.Words.{decodedOf}
 use Rattle.chain.specs.Chain.{chipCount}
-use Rattle.chain.specs.Shift.{rowBits, clocking}
 
 -- ---- rows
 
@@ -23,6 +23,25 @@ cutRows (suc count) n ws = take n ws ∷ cutRows count n (drop n ws)
 -- the rows of a list
 abbrev pub rowsOf {ℓ} : {A : Type ℓ} → ℕ → List A → List (List A)
 rowsOf n ws = cutRows (length ws / n) n ws
+
+-- the 12 bits of a word, lowest first
+unfoldable pub wordBits : ℕ → List ℕ
+wordBits w =
+    cut w 0 1 ∷ cut w 1 1 ∷ cut w 2 1 ∷ cut w 3 1 ∷ cut w 4 1 ∷ cut w 5 1 ∷ cut w 6 1 ∷ cut w 7 1 ∷ cut w 8 1 ∷ cut w 9 1 ∷ cut w 10 1 ∷ cut w 11 1 ∷ []
+
+-- a row of words, chip 0 first, is sent last chip first, each word lowest bit first
+unfoldable pub rowBits : List ℕ → List ℕ
+rowBits [] = []
+rowBits (w ∷ ws) = rowBits ws ++ wordBits w
+
+-- a bit is two samples, DCLK low and DCLK high; base 4 is LOAD high, base 0 LOAD low
+abbrev pub bitSamples : ℕ → ℕ → List ℕ
+bitSamples base b = (base + b) ∷ (base + 2 + b) ∷ []
+
+-- bits one after another
+unfoldable pub clocking : ℕ → List ℕ → List ℕ
+clocking base [] = []
+clocking base (b ∷ bs) = bitSamples base b ++ clocking base bs
 
 -- a row's samples: a bit b is 4+b then 6+b, last chip first, lowest bit first; the row ends with 3, 7
 unfoldable pub rowSamples : List ℕ → List ℕ

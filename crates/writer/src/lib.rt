@@ -9,7 +9,7 @@ ghost use Prim.Native.Nat.{_+_, _*_, _/_, _≤_, _<_};
 ghost use lib.ListN.{length};
 ghost use Rattle.base.specs.Lent.{laid};
 ghost use Rattle.base.specs.Refusals.{verdictTells};
-ghost use Rattle.chain.specs.Shift.{wordBits, clocking};
+ghost use Rattle.writer.specs.Rows.{wordBits, clocking};
 ghost use Rattle.writer.specs.Rows as R;
 ghost use Rattle.writer.specs.Written.{Writes};
 

@@ -8,7 +8,7 @@ use native.Mathlib.Omega.{arith}
 use borrow.Rule.Slice.PartMut.{putMid}
 use lib.ListN.{length, getD, take, length-set, length-take, length-drop}
 use lib.Seq.{take-length}
-use Rattle.chain.specs.Shift.{wordBits, rowBits, clocking}
+use Rattle.writer.specs.Rows.{wordBits, rowBits, clocking}
 use Rattle.writer.proofs.Filling.{clocking-length, word-length, put-length}
 use Rattle.writer.proofs.Stretches.{row-more, row-over}
 use borrow.Author.Needs.{needs}

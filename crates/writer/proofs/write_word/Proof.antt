@@ -5,7 +5,7 @@ use mathlib.Core.List.{_++_}
 use Prim.Native.Nat.{ℕ, _+_, _-_, _*_, _≤_}
 use native.Mathlib.Omega.{arith}
 use lib.ListN.{length, set, take, drop, length-set}
-use Rattle.chain.specs.Shift.{wordBits, clocking}
+use Rattle.writer.specs.Rows.{wordBits, clocking}
 use Rattle.writer.proofs.Filling.{word-more, word-over}
 use borrow.Author.Needs.{needs}
 use Rattle.writer.proofs.write_word.Statement.{statement}

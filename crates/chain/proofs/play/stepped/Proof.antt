@@ -6,7 +6,7 @@ use mathlib.Core.List.{List, _++_}
 use Prim.Native.Nat.{ℕ, _+_, _-_, _≤_, _<_}
 use native.Mathlib.Nat.{sub-zero}
 use native.Mathlib.Omega.{arith}
-use lib.ListN.{length, set, take, drop, length-set}
+use lib.ListN.{length, take, drop, length-set}
 use Rattle.base.proofs.Lists.{length-mapped}
 use Rattle.chip.specs.declared.Chip.{Chip}
 use Rattle.chain.specs.Chain.{steppedRow}
