@@ -22,7 +22,7 @@ pub const MOST: usize = 8;
 
 // The chips, and the levels last seen on the three wires.
 pub struct Chain {
-    pub chips: [Chip; 8],
+    pub chips: [Chip; MOST],
     pub levels: u8,
 }
 
@@ -57,7 +57,7 @@ fn zero_chain() -> Chain
         },
     };
     Chain {
-        chips: [zero; 8],
+        chips: [zero; MOST],
         levels: 0,
     }
 }
@@ -75,7 +75,7 @@ pub fn start(n: usize) -> Handed
     let c = chip::reset_chip();
     Handed {
         chain: Chain {
-            chips: [c; 8],
+            chips: [c; MOST],
             levels: 7,
         },
         answer: Verdict::Done,

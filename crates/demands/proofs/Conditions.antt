@@ -23,7 +23,7 @@ use Rattle.chip.specs.declared.Chip.{Chip}
 use Rattle.chip.specs.Record.{none, valid, resetChip}
 use Rattle.chain.specs.declared.Chain.{Chain}
 use Rattle.chain.specs.Chain.{most, chipCount, allValid, validChain}
-use Rattle.demands.specs.Refusals.{NotOneToEight, OutOfRange, Unheld, register, custom, code, limit, readout, left, last, UnheldChain}
+use Rattle.demands.specs.Refusals.{NotOneToMost, OutOfRange, Unheld, register, custom, code, limit, readout, left, last, UnheldChain}
 
 -- a test that is failed exactly when a condition holds
 pub data Tests (given : Type 0) : Bool → Type 0 where
@@ -70,7 +70,7 @@ either-tests (failed s) (failed t) = failed (s, t)
 
 -- ---- 3, 9
 
-pub count-tests : (n : ℕ) → Tests (NotOneToEight n) (chipCount n)
+pub count-tests : (n : ℕ) → Tests (NotOneToMost n) (chipCount n)
 count-tests n = both-tests (leb-tests 1 n) (leb-tests n most)
 
 pub legal-tests : (c : Command) → Tests (OutOfRange c) (legal c)

@@ -16,7 +16,7 @@ use Rattle.demands.specs.Exact.{each, Exactly}
 use Rattle.demands.specs.Texts.{FirstLine, SamplesLine, ScanLine, OtherLine, lineRow, lineRows, textTable, outputTells}
 use Rattle.demands.proofs.Conditions.{leb-tests}
 use Rattle.demands.proofs.ByTable.{ByTable, answered, here, later, by-table, tested}
-use Rattle.demands.proofs.LineForms.{FirstView, gives, wrong, first-view, first-bytes, one-to-eight, OtherView, as-samples, as-scan, as-none, other-view}
+use Rattle.demands.proofs.LineForms.{FirstView, gives, wrong, first-view, first-bytes, one-to-most, OtherView, as-samples, as-scan, as-none, other-view}
 use Rattle.demands.proofs.Outputs.{output-tells}
 use Rattle.demands.proofs.Readings.{of-contract}
 
@@ -42,7 +42,7 @@ module _ (first : Line) (n : ℕ) (gave : FirstLine first n) where
   unfolding linesEnd
   lines-table line [] = answered tt
   lines-table line (l ∷ ls) =
-      line-table line l ls (formOf n (bytesIn l)) (other-view n (one-to-eight n (gave .0)) l) (lines-table (suc line) ls)
+      line-table line l ls (formOf n (bytesIn l)) (other-view n (one-to-most n (gave .0)) l) (lines-table (suc line) ls)
 
 -- ---- all lines
 

@@ -19,7 +19,7 @@ use Rattle.chain.proofs.Laws.{checked-below}
 use Rattle.capture.specs.Lines.{Line, ended, bytesIn, digitsFor}
 use Rattle.capture.specs.Frames.{Form, samples, scan, other, firstOf, samplesBy, samplesForm, scanForm, formOf}
 use Rattle.capture.proofs.Rises.{below-checked}
-use Rattle.demands.specs.Refusals.{NotOneToEight}
+use Rattle.demands.specs.Refusals.{NotOneToMost}
 use Rattle.demands.specs.Texts.{FirstLine, SamplesLine, ScanLine}
 use Rattle.demands.proofs.Conditions.{Tests, passed, failed, neither, leb-tests, ltb-tests, eqb-tests, both-tests, count-tests}
 use Rattle.demands.proofs.Digits.{in-written, line-written}
@@ -31,12 +31,12 @@ pub data FirstView (l : Line) : Told ℕ → Type 0 where
   gives : (n : ℕ) → FirstLine l n → FirstView l (done n)
   wrong : ((n : ℕ) × FirstLine l n → ⊥) → FirstView l (refused 10 0)
 
-pub one-to-eight : (n : ℕ) → (NotOneToEight n → ⊥) → n ≤ 8
-one-to-eight n f = by-order n 8 (λ h. h) (λ h. absurd (f (inr h)))
+pub one-to-most : (n : ℕ) → (NotOneToMost n → ⊥) → n ≤ most
+one-to-most n f = by-order n most (λ h. h) (λ h. absurd (f (inr h)))
 
 pub first-bytes : (l : Line) (n : ℕ) → FirstLine l n → bytesIn l ≡ 0x00 ∷ 0x01 ∷ n ∷ []
 first-bytes l n y =
-    let h = one-to-eight n (y .0) in
+    let h = one-to-most n (y .0) in
     ap bytesIn (y .1) ∙ in-written (0x00 ∷ 0x01 ∷ n ∷ []) (omega arith, (omega arith, (omega arith, tt)))
 
 -- a number that isn't another, or is
@@ -48,7 +48,7 @@ module _ (l : Line) where
   not-three : (bs : List ℕ) → bytesIn l ≡ bs → (length bs ≡ 3 → ⊥) → (n : ℕ) × FirstLine l n → ⊥
   not-three bs e ne y = ne (ap length (sym e ∙ first-bytes l (y .0) (y .1)))
 
-  by-test : (a b m : ℕ) (t : Bool) → bytesIn l ≡ a ∷ b ∷ m ∷ [] → Tests (((a ≡ 0x00 → ⊥) ⊎ (b ≡ 0x01 → ⊥)) ⊎ NotOneToEight m) t
+  by-test : (a b m : ℕ) (t : Bool) → bytesIn l ≡ a ∷ b ∷ m ∷ [] → Tests (((a ≡ 0x00 → ⊥) ⊎ (b ≡ 0x01 → ⊥)) ⊎ NotOneToMost m) t
       → FirstView l (pick t (done m) (refused 10 0))
   by-test a b m t e (passed never) =
       let p = is-so a 0x00 (λ ne. never (inl (inl ne))) in
@@ -56,10 +56,10 @@ module _ (l : Line) where
       gives m ((λ g. never (inr g)), line-written l a (b ∷ m ∷ []) e .0 ∙ ap₂ (λ x y. ended (digitsFor (x ∷ y ∷ m ∷ []))) p q)
   by-test a b m t e (failed g) = wrong (λ y. away (y .0) (y .1 .0) (sym e ∙ first-bytes l (y .0) (y .1)) g)
     where
-      away : (n : ℕ) → (NotOneToEight n → ⊥) → a ∷ b ∷ m ∷ [] ≡ 0x00 ∷ 0x01 ∷ n ∷ [] → ((a ≡ 0x00 → ⊥) ⊎ (b ≡ 0x01 → ⊥)) ⊎ NotOneToEight m → ⊥
+      away : (n : ℕ) → (NotOneToMost n → ⊥) → a ∷ b ∷ m ∷ [] ≡ 0x00 ∷ 0x01 ∷ n ∷ [] → ((a ≡ 0x00 → ⊥) ⊎ (b ≡ 0x01 → ⊥)) ⊎ NotOneToMost m → ⊥
       away n f q (inl (inl ne)) = ne (head-eq-of-cons-eq q)
       away n f q (inl (inr ne)) = ne (head-eq-of-cons-eq (tail-eq-of-cons-eq q))
-      away n f q (inr y) = f (subst NotOneToEight (head-eq-of-cons-eq (tail-eq-of-cons-eq (tail-eq-of-cons-eq q))) y)
+      away n f q (inr y) = f (subst NotOneToMost (head-eq-of-cons-eq (tail-eq-of-cons-eq (tail-eq-of-cons-eq q))) y)
 
   by-bytes : (bs : List ℕ) → bytesIn l ≡ bs → FirstView l (firstOf bs)
   unfolding firstOf

@@ -15,7 +15,7 @@ use Rattle.chain.specs.Entries.{playedOf}
 use Rattle.chain.specs.Finder.{foundOf}
 use Rattle.writer.specs.Written.{answerOf}
 use Rattle.demands.specs.Exact.{Row, row, None, First}
-use Rattle.demands.specs.Refusals.{LowestAbove7, NotOneToEight, NotMultiple, MoreThan64Rows, ListFits, Unlisted, KeypadBeforeLast, AcceptedBefore, BufferShort, LevelsAbove7, UnheldChain}
+use Rattle.demands.specs.Refusals.{LowestAbove7, NotOneToMost, NotMultiple, MoreThan64Rows, ListFits, Unlisted, KeypadBeforeLast, AcceptedBefore, BufferShort, LevelsAbove7, UnheldChain}
 use Rattle.demands.specs.Tables.{sampleRow, sampleRows, wordRow, wordRows}
 use Rattle.demands.proofs.ExactChain.{play-exact, find-exact}
 use Rattle.demands.proofs.ExactWriter.{write-exact}
@@ -37,10 +37,10 @@ lowest-exactly ss p = (
 )
 
 pub play-lowest : (n : ℕ) (ch : Chain) (samples : List ℕ) (place : ℕ)
-    → (playedOf n ch samples .told ≡ refused 1 place) ↔ ((NotOneToEight n → ⊥) × (UnheldChain n ch → ⊥) × LowestAbove7 samples place)
+    → (playedOf n ch samples .told ≡ refused 1 place) ↔ ((NotOneToMost n → ⊥) × (UnheldChain n ch → ⊥) × LowestAbove7 samples place)
 play-lowest n ch ss p = (
   (λ e.
-      let f = after-one (row 3 (NotOneToEight n)) (row 12 (UnheldChain n ch) ∷ sampleRows ss) 1 p (λ q. omega arith) (play-exact n ch ss .refusal 1 p .0 e) in
+      let f = after-one (row 3 (NotOneToMost n)) (row 12 (UnheldChain n ch) ∷ sampleRows ss) 1 p (λ q. omega arith) (play-exact n ch ss .refusal 1 p .0 e) in
       let g = after-one (row 12 (UnheldChain n ch)) (sampleRows ss) 1 p (λ q. omega arith) (f .1) in
       (f .0, g .0, lowest-exactly ss p .0 (g .1))),
   (λ y. play-exact n ch ss .refusal 1 p .1 (inr (y .0, inr (y .1, lowest-exactly ss p .1 (y .2))))),
@@ -79,7 +79,7 @@ module _ (n : ℕ) (ws out : List ℕ) where
   -- the table past its first three rows
   past-three : (m p : ℕ) → 5 < m → answerOf n ws out ≡ refused m p → ListFits n ws × First (wordRows n ws ++ short) m p
   past-three m p h e =
-      let three = row 3 (NotOneToEight n) in
+      let three = row 3 (NotOneToMost n) in
       let four = row 4 (NotMultiple n ws) in
       let five = row 5 (MoreThan64Rows n ws) in
       let words = wordRows n ws ++ short in

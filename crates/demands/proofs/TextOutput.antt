@@ -24,7 +24,7 @@ use Rattle.capture.specs.Law.{lineTaken, AllTaken, after, wrote}
 use Rattle.capture.proofs.Law.{lines-taken, lines-refused}
 use Rattle.demands.specs.Exact.{each, None, First}
 use Rattle.demands.specs.Texts.{FirstLine, OtherLine, lineRow, lineRows, textTable, Output}
-use Rattle.demands.proofs.LineForms.{FirstView, gives, wrong, first-view, one-to-eight, OtherView, as-samples, as-scan, as-none, other-view}
+use Rattle.demands.proofs.LineForms.{FirstView, gives, wrong, first-view, one-to-most, OtherView, as-samples, as-scan, as-none, other-view}
 use Rattle.demands.proofs.ExactText.{not-other}
 
 -- ---- lines after the first
@@ -43,7 +43,7 @@ module _ (what : Report) (first : Line) (n : ℕ) (gave : FirstLine first n) whe
   form-refused ch l form (as-none g) f = refl
 
   view : (l : Line) → OtherView n l (formOf n (bytesIn l))
-  view l = other-view n (one-to-eight n (gave .0)) l
+  view l = other-view n (one-to-most n (gave .0)) l
 
   all-taken : (line : ℕ) (ch : Chain) (ls : List Line) → None (each (lineRow first) line ls) → AllTaken what n ch ls
   unfolding AllTaken

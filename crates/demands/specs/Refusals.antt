@@ -13,6 +13,7 @@ use Rattle.word.specs.Words.{wordOf, plain}
 use Rattle.chip.specs.declared.Chip.{Chip}
 use Rattle.chip.specs.Record.{none}
 use Rattle.chain.specs.declared.Chain.{Chain}
+use Rattle.chain.specs.Chain.{most}
 use Rattle.chain.specs.Entries.{chipAt}
 use Rattle.word.specs.Ranges.{ranges}
 
@@ -30,8 +31,8 @@ abbrev pub ChipNotBelow : ℕ → ℕ → Type 0
 ChipNotBelow n k = n ≤ k
 
 -- 3: N is not 1 to 8
-abbrev pub NotOneToEight : ℕ → Type 0
-NotOneToEight n = (n < 1) ⊎ (8 < n)
+abbrev pub NotOneToMost : ℕ → Type 0
+NotOneToMost n = (n < 1) ⊎ (most < n)
 
 -- 4: list length isn't a multiple of N
 abbrev pub NotMultiple : ℕ → List ℕ → Type 0
@@ -43,7 +44,7 @@ MoreThan64Rows n ws = 64 < length ws / n
 
 -- none of 3, 4, 5
 abbrev pub ListFits : ℕ → List ℕ → Type 0
-ListFits n ws = (NotOneToEight n → ⊥) × (NotMultiple n ws → ⊥) × (MoreThan64Rows n ws → ⊥)
+ListFits n ws = (NotOneToMost n → ⊥) × (NotMultiple n ws → ⊥) × (MoreThan64Rows n ws → ⊥)
 
 -- 9: a command field is out of range
 abbrev pub OutOfRange : Command → Type 0

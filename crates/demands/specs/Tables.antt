@@ -10,7 +10,7 @@ use Rattle.word.specs.declared.Command.{Command}
 use Rattle.chip.specs.declared.Chip.{Chip}
 use Rattle.chain.specs.declared.Chain.{Chain}
 use Rattle.demands.specs.Exact.{Row, names, row, each}
-use Rattle.demands.specs.Refusals.{SampleAbove7, ChipNotBelow, NotOneToEight, NotMultiple, MoreThan64Rows, OutOfRange, NumbersOutOfRange, Unlisted, KeypadBeforeLast, BufferShort, Unheld, LevelsAbove7, UnheldChain}
+use Rattle.demands.specs.Refusals.{SampleAbove7, ChipNotBelow, NotOneToMost, NotMultiple, MoreThan64Rows, OutOfRange, NumbersOutOfRange, Unlisted, KeypadBeforeLast, BufferShort, Unheld, LevelsAbove7, UnheldChain}
 
 -- ---- words
 
@@ -52,24 +52,24 @@ sampleRows samples = each sampleRow 0 samples
 
 -- chain::start
 abbrev pub startTable : ℕ → List Row
-startTable n = row 3 (NotOneToEight n) ∷ []
+startTable n = row 3 (NotOneToMost n) ∷ []
 
 -- chain::host_sees
 abbrev pub chainTable : ℕ → Chain → List Row
-chainTable n ch = row 3 (NotOneToEight n) ∷ row 12 (UnheldChain n ch) ∷ []
+chainTable n ch = row 3 (NotOneToMost n) ∷ row 12 (UnheldChain n ch) ∷ []
 
 -- chain::play::play
 abbrev pub playTable : ℕ → Chain → List ℕ → List Row
-playTable n ch samples = row 3 (NotOneToEight n) ∷ row 12 (UnheldChain n ch) ∷ sampleRows samples
+playTable n ch samples = row 3 (NotOneToMost n) ∷ row 12 (UnheldChain n ch) ∷ sampleRows samples
 
 -- chain::one::scan and chain::one::segments_lit
 abbrev pub oneTable : ℕ → Chain → ℕ → List Row
-oneTable n ch k = row 3 (NotOneToEight n) ∷ row 12 (UnheldChain n ch) ∷ row 2 (ChipNotBelow n k) ∷ []
+oneTable n ch k = row 3 (NotOneToMost n) ∷ row 12 (UnheldChain n ch) ∷ row 2 (ChipNotBelow n k) ∷ []
 
 -- chain::one::apply
 abbrev pub oneApplyTable : ℕ → Chain → ℕ → Command → List Row
 oneApplyTable n ch k command =
-    row 3 (NotOneToEight n) ∷ row 12 (UnheldChain n ch) ∷ row 9 (OutOfRange command) ∷ row 2 (ChipNotBelow n k) ∷ []
+    row 3 (NotOneToMost n) ∷ row 12 (UnheldChain n ch) ∷ row 9 (OutOfRange command) ∷ row 2 (ChipNotBelow n k) ∷ []
 
 -- chain::finder::next_rise
 abbrev pub findTable : ℕ → List ℕ → List Row
@@ -88,4 +88,4 @@ wordRows n words = each (wordRow n) 0 words
 -- writer::write
 abbrev pub writeTable : ℕ → List ℕ → List ℕ → List Row
 writeTable n ws out =
-    (row 3 (NotOneToEight n) ∷ row 4 (NotMultiple n ws) ∷ row 5 (MoreThan64Rows n ws) ∷ wordRows n ws) ++ row 8 (BufferShort n ws out) ∷ []
+    (row 3 (NotOneToMost n) ∷ row 4 (NotMultiple n ws) ∷ row 5 (MoreThan64Rows n ws) ∷ wordRows n ws) ++ row 8 (BufferShort n ws out) ∷ []

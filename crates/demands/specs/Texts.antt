@@ -18,13 +18,13 @@ use Rattle.capture.specs.Replay.{outputOf}
 use Rattle.capture.specs.Parts.{firstIn, chipsIn}
 use Rattle.capture.specs.Law.{wrote}
 use Rattle.demands.specs.Exact.{Row, names, row, each, None, First}
-use Rattle.demands.specs.Refusals.{NotOneToEight}
+use Rattle.demands.specs.Refusals.{NotOneToMost}
 
 -- ---- the forms of lines
 
 -- the first line: 00 01 N, N 1 to 8
 abbrev pub FirstLine : Line → ℕ → Type 0
-FirstLine l n = (NotOneToEight n → ⊥) × (l ≡ ended (digitsFor (0x00 ∷ 0x01 ∷ n ∷ [])))
+FirstLine l n = (NotOneToMost n → ⊥) × (l ≡ ended (digitsFor (0x00 ∷ 0x01 ∷ n ∷ [])))
 
 -- 01 and 1 to 32 samples, none above 7
 abbrev pub SamplesLine : Line → Type 0

@@ -22,7 +22,7 @@ use Rattle.word.specs.declared.Decoded.{Decoded}
 use Rattle.word.specs.declared.Decoded.the-variants as Dec
 use Rattle.word.specs.Answers.{decodedTells}
 use Rattle.word.specs.Words.{decodedOf}
-use Rattle.chain.specs.Chain.{chipCount}
+use Rattle.chain.specs.Chain.{most, chipCount}
 use Rattle.chain.proofs.Tested.{count-low, count-high}
 use Rattle.writer.specs.Rows.{keypadOn, forLast, wordTest, orElse, wordsFrom, listTest}
 
@@ -55,14 +55,14 @@ four-passed true true false t p = absurd p
 four-passed true false c t p = absurd p
 four-passed false b c t p = absurd p
 
--- what a list that passed its tests has: 1 to 8 chips, whole rows, at most 64 of them, and so at most 512 words, each of which
--- passed its own
+-- what a list that passed its tests has: 1 to the most chips, whole rows, at most 64 of them, and so at most 64 times as many words, each
+-- of which passed its own
 pub record Passed (n : ℕ) (ws : List ℕ) : Type 0 where
   pub low : 1 ≤ n
-  pub high : n ≤ 8
+  pub high : n ≤ most
   pub whole : length ws % n ≡ 0
   pub rows : length ws / n ≤ 64
-  pub words : length ws ≤ 512
+  pub words : length ws ≤ 64 * most
   pub each : IsDone (wordsFrom n 0 ws)
 
 pub list-passed : (n : ℕ) (ws : List ℕ) → listTest n ws ≡ done tt → Passed n ws

@@ -10,6 +10,7 @@ ghost use lib.ListN.{length};
 ghost use Rattle.base.specs.Lent.{laid};
 ghost use Rattle.base.specs.Refusals.{verdictTells};
 ghost use Rattle.writer.specs.Rows.{wordBits, clocking};
+ghost use Rattle.chain.specs.Chain.{most};
 ghost use Rattle.writer.specs.Rows as R;
 ghost use Rattle.writer.specs.Written.{Writes};
 
@@ -116,7 +117,7 @@ fn write_word(w: u16, out: &mut [u8])
 // One row into its own stretch: last chip first, then 3, 7.
 fn write_row(words: &[u16], out: &mut [u8])
     requires { ⌜ length (now out) ≡ 24 * length (now words) + 2 ⌝ }
-    requires { ⌜ length (now words) ≤ 8 ⌝ }
+    requires { ⌜ length (now words) ≤ most ⌝ }
     ensures { λ _. ⌜ now (out .exit) ≡ R.rowSamples (now (words .entry)) ⌝ }
 {
     let n = words.len();
@@ -135,8 +136,8 @@ fn write_row(words: &[u16], out: &mut [u8])
 
 // Rows one after another, each into its own stretch.
 fn write_rows(n: usize, words: &[u16], out: &mut [u8]) -> usize
-    requires { ⌜ (0 < n) × (n ≤ 8) ⌝ }
-    requires { ⌜ length (now words) ≤ 512 ⌝ }
+    requires { ⌜ (0 < n) × (n ≤ most) ⌝ }
+    requires { ⌜ length (now words) ≤ 64 * most ⌝ }
     requires { ⌜ R.width n * (length (now words) / n) ≤ length (now out) ⌝ }
     ensures { λ r. ⌜ r ≡ R.width n * (length (now (words .entry)) / n) ⌝ }
     ensures { λ _. ⌜ now (out .exit) ≡ laid (R.written n (now (words .entry))) (now (out .entry)) ⌝ }
