@@ -1,5 +1,6 @@
 pub mod Rest
 pub mod Steps
+pub mod Stretch
 pub mod Tested
 pub mod Laws
 pub mod Shift

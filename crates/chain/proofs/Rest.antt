@@ -26,7 +26,7 @@ use Rattle.chain.specs.Chain.{allValid, checkedFrom, steppedRow, stepped
 use Rattle.chain.specs.Finder.{riseAt, noRise, riseFrom}
 
 -- the rest begins with the element at its place
-rest-is {ℓ} : {A : Type ℓ} (xs : List A) (i : ℕ) (d : A) → i < length xs → drop i xs ≡ getD xs i d ∷ drop (i + 1) xs
+pub rest-is {ℓ} : {A : Type ℓ} (xs : List A) (i : ℕ) (d : A) → i < length xs → drop i xs ≡ getD xs i d ∷ drop (i + 1) xs
 rest-is xs i d h = drop-cons xs i d h ∙ ap (λ n. getD xs i d ∷ drop n xs) (sym (add-one i))
 
 -- one fewer is left

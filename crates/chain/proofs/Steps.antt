@@ -1,27 +1,24 @@
--- One chip's step where LOAD does not rise, by DCLK's edge; and one sample of a block played.
+-- One chip's step where LOAD does not rise, by DCLK's edge.
 --     stepped-rise     a DCLK rise alone moves the register
 --     stepped-fall     a DCLK fall alone moves latch and readout
 --     stepped-still    no edge changes nothing
 --     row-any          a DCLK fall takes nothing from DIN
 --     two-stores       two stores at one place
 --     row-still        nor does it in a row of chips
---     play-step        a block played from a place on, after the sample at that place
 -- Assumes nothing.
 use mathlib.Core.Path.{_≡_, refl, ap, ap₂, sym, _∙_}
 use mathlib.Core.Bool.{Bool, true, false, not, _&&_}
 use mathlib.Core.List.{List, [], _∷_}
-use Prim.Native.Nat.{ℕ, zero, suc, _+_, _-_, _<_}
+use Prim.Native.Nat.{ℕ, zero, suc, _-_, _<_}
 use Rattle.base.specs.Bits.{bit}
-use lib.ListN.{length, getD, set, drop}
+use lib.ListN.{length, getD, set}
 use lib.Seq.{set-set, getD-set-same}
 use Rattle.base.proofs.Picks.{pick-yes, pick-no}
 use Rattle.chip.specs.Record.{withLine}
 use Rattle.chip.specs.declared.Chip.{Chip}
 use Rattle.chip.specs.Commands.{dout}
-use Rattle.chip.specs.Edges.{din, dclk, dclkRises, dclkFalls, loadRises, shifted, clocked, stepped}
-use Rattle.chain.specs.declared.Chain.{Chain}
-use Rattle.chain.specs.Chain.{steppedRow, played}
-use Rattle.chain.proofs.Rest.{play-more}
+use Rattle.chip.specs.Edges.{dclk, dclkRises, dclkFalls, loadRises, shifted, clocked, stepped}
+use Rattle.chain.specs.Chain.{steppedRow}
 
 -- what rises does not fall
 no-fall : (a b : Bool) → (not a && b) ≡ true → (a && not b) ≡ false
@@ -86,10 +83,3 @@ row-still zero was now d cs still up down = refl
 row-still (suc n) was now d [] still up down = refl
 row-still (suc n) was now d (c ∷ cs) still up down =
     ap₂ _∷_ (stepped-still was now d c still up down) (row-still n was now (dout c) cs still up down)
-
-pub play-step : (n : ℕ) (ss : List ℕ) (i : ℕ) (ch next : Chain) → i < length ss
-    → next .chips ≡ steppedRow n (ch .levels) (getD ss i 0) (din (getD ss i 0)) (ch .chips)
-    → next .levels ≡ getD ss i 0
-    → played n (drop (i + 1) ss) next ≡ played n (drop i ss) ch
-play-step n ss i ch next h cs l =
-    ap (played n (drop (i + 1) ss)) (λ j. record { chips = cs j; levels = l j }) ∙ sym (play-more n ss i ch h)

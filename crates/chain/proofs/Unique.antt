@@ -5,7 +5,7 @@ use mathlib.Core.Path.{_≡_, refl, ap, sym, _∙_}
 use Rattle.base.specs.Refusals.{Outcome}
 use Rattle.base.specs.Unique.{AllowsOne}
 use Rattle.base.proofs.Unique.{same-answer, same-verdict}
-use Rattle.chip.proofs.Unique.{same-scan-answer, same-lit}
+use Rattle.chip.proofs.Unique.{same-scan-answer, same-taken, same-lit}
 use Rattle.chain.specs.declared.Chain.{Chain}
 use Rattle.chain.specs.declared.Handed.{Handed}
 use Rattle.chain.specs.declared.finder.Rise.{Rise}
@@ -70,6 +70,15 @@ next-rise-unique κs a x y last last′ p q =
 
 pub chip-at-unique : AllowsOne one.chip_at.Kinds.ps one.chip_at.Kinds.r one.chip_at.Reads.Learnt
 chip-at-unique κs a x y last last′ p q = (same-answer p q, refl)
+
+pub scan-chip-unique : AllowsOne one.scan_chip.Kinds.ps one.scan_chip.Kinds.r one.scan_chip.Reads.Learnt
+scan-chip-unique κs a x y last last′ p q =
+    let before = same-answer (p .1 .0) (q .1 .0) in
+    let taken = same-taken (x .taken) (y .taken) (p .1 .1) (q .1 .1) in
+    (λ i. record { chain = same-answer (p .0) (q .0) i; before = before i; taken = taken i }, refl)
+
+pub to-next-rise-unique : AllowsOne play.to_next_rise.Kinds.ps play.to_next_rise.Kinds.r play.to_next_rise.Reads.Learnt
+to-next-rise-unique κs a x y last last′ p q = (same-answer p q, refl)
 
 pub is-count-unique : AllowsOne tests.is_count.Kinds.ps tests.is_count.Kinds.r tests.is_count.Reads.Learnt
 is-count-unique κs a x y last last′ p q = (same-answer p q, refl)

@@ -1,5 +1,6 @@
 pub mod Chain
 pub mod Finder
 pub mod Entries
+pub mod Stretch
 pub mod Still
 pub mod Events

@@ -7,14 +7,23 @@ use base::Verdict;
 use chip::Chip;
 use chip::Lit;
 use chip::ScanAnswer;
+use chip::scans::Taken;
 use word::Command;
 ghost use mathlib.Core.Path.{_≡_};
+ghost use Rattle.chip.specs.Scans as S;
 ghost use Rattle.chain.specs.Entries as E;
 
 // A scanned chain handed back, and what the scan recorded.
 pub struct Scanned {
     pub chain: Chain,
     pub answer: ScanAnswer,
+}
+
+// One chip of a chain scanned: the chain after it, the chip before it, and what the scan took.
+pub struct ChipScan {
+    pub chain: Chain,
+    pub before: Chip,
+    pub taken: Taken,
 }
 
 // The record at a place, or a reset chip past the last.
@@ -42,6 +51,22 @@ fn with_chip(k: usize, c: Chip, chain: Chain) -> Chain
     }
 }
 
+// One chip scanned: no tests, for any place, chain and bytes.
+pub fn scan_chip(k: usize, bytes: [u8; 8], chain: Chain) -> ChipScan
+    ensures { λ r. ⌜ r .chain ≡ E.withChip k (S.scanned bytes (E.chipAt k chain)) chain ⌝ }
+    ensures { λ r. ⌜ r .before ≡ E.chipAt k chain ⌝ }
+    ensures { λ r. ⌜ S.tookOf (r .taken) ≡ S.taken bytes (E.chipAt k chain) ⌝ }
+{
+    let before = chip_at(k, chain);
+    let taken = chip::scans::scanned(bytes, before);
+    let scanned = taken.chip;
+    ChipScan {
+        chain: with_chip(k, scanned, chain),
+        before,
+        taken,
+    }
+}
+
 // Scans one chip: refusals 3, 12, 2.
 pub fn scan(n: usize, chain: Chain, k: usize, bytes: [u8; 8]) -> Scanned
     ensures { λ r. ⌜ E.handedScan r ≡ E.scannedOf n chain k bytes ⌝ }
@@ -59,11 +84,12 @@ pub fn scan(n: usize, chain: Chain, k: usize, bytes: [u8; 8]) -> Scanned
                     answer: ScanAnswer::Refused(Refusal::ScanChip),
                 };
             }
-            let taken = chip::scans::scanned(bytes, chip_at(k, chain));
-            let after = taken.chip;
+            let done = scan_chip(k, bytes, chain);
+            let after = done.chain;
+            let taken = done.taken;
             let what = taken.recorded;
             Scanned {
-                chain: with_chip(k, after, chain),
+                chain: after,
                 answer: ScanAnswer::Took(what),
             }
         }

@@ -6,12 +6,21 @@ use crate::tests;
 use base::Verdict;
 ghost use mathlib.Core.Path.{_≡_};
 ghost use Prim.Native.Nat.{_≤_};
+ghost use lib.ListN.{drop};
 ghost use Rattle.chain.specs.Chain as C;
 ghost use Rattle.chain.specs.Entries as E;
+ghost use Rattle.chain.specs.Stretch as S;
+
+// Samples played up to and with a LOAD rise: the chain after them, the place past the last of them, and whether LOAD rose there.
+pub struct Stretch {
+    pub chain: Chain,
+    pub stop: usize,
+    pub rose: bool,
+}
 
 // One sample for every chip below N: each takes what the DOUT before it showed before this sample.
 fn stepped(n: usize, chain: Chain, sample: u8) -> Chain
-    requires { ⌜ n ≤ 8 ⌝ }
+    requires { ⌜ n ≤ C.most ⌝ }
     ensures { λ r. ⌜ r ≡ C.steppedChain n sample chain ⌝ }
 {
     let was = chain.levels;
@@ -30,20 +39,23 @@ fn stepped(n: usize, chain: Chain, sample: u8) -> Chain
     next
 }
 
-// All samples, one after another.
-fn played(n: usize, chain: Chain, samples: &[u8]) -> Chain
-    requires { ⌜ n ≤ 8 ⌝ }
-    ensures { λ r. ⌜ r ≡ C.played n (now (samples .entry)) chain ⌝ }
+// A stretch of at most the most chips, from a place of the samples on: up to and with the next LOAD rise, or to their end.
+fn stretch_of(n: usize, chain: Chain, samples: &[u8], from: usize) -> Stretch
+    requires { ⌜ n ≤ C.most ⌝ }
+    ensures { λ r. ⌜ r ≡ S.stretchFrom n from (drop from (now (samples .entry))) chain ⌝ }
 {
     let mut next = chain;
-    let mut i = 0;
+    let mut i = from;
     while i < samples.len() {
         let s = samples[i];
         let was = next.levels;
         i += 1;
         if chip::edges::load_rises(was, s) {
-            next = stepped(n, next, s);
-            continue;
+            return Stretch {
+                chain: stepped(n, next, s),
+                stop: i,
+                rose: true,
+            };
         }
         next.levels = s;
         if chip::edges::dclk_rises(was, s) {
@@ -74,6 +86,35 @@ fn played(n: usize, chain: Chain, samples: &[u8]) -> Chain
                 k += 1;
             }
         }
+    }
+    Stretch {
+        chain: next,
+        stop: i,
+        rose: false,
+    }
+}
+
+// Plays samples from a place on, up to and with the next LOAD rise, or to their end: no tests, for any N, chain and samples.
+pub fn to_next_rise(n: usize, chain: Chain, samples: &[u8], from: usize) -> Stretch
+    ensures { λ r. ⌜ r ≡ S.stretchFrom n from (drop from (now (samples .entry))) chain ⌝ }
+{
+    if n > crate::MOST {
+        return stretch_of(crate::MOST, chain, samples, from);
+    }
+    stretch_of(n, chain, samples, from)
+}
+
+// All samples, one stretch after another.
+fn played(n: usize, chain: Chain, samples: &[u8]) -> Chain
+    ensures { λ r. ⌜ r ≡ C.played n (now (samples .entry)) chain ⌝ }
+{
+    let mut next = chain;
+    let mut i = 0;
+    while i < samples.len() {
+        let part = to_next_rise(n, next, samples, i);
+        let after = part.chain;
+        next = after;
+        i = part.stop;
     }
     next
 }

@@ -13,9 +13,10 @@ use Rattle.chip.specs.declared.Recorded.{Recorded}
 use Rattle.chip.specs.declared.Recorded.the-variants as Records
 use Rattle.chip.specs.declared.Handed.{Handed}
 use Rattle.chip.specs.declared.ScanAnswer.{ScanAnswer}
-use Rattle.chip.specs.declared.ScanAnswer.the-variants.{Took, Refused}
+use Rattle.chip.specs.declared.ScanAnswer.the-variants as Answers
 use Rattle.chip.specs.declared.Lit.{Lit}
-use Rattle.chip.specs.Scans.{Recording, nothing, keyCode, recordingOf}
+use Rattle.chip.specs.declared.scans.Taken.{Taken}
+use Rattle.chip.specs.Scans.{Recording, nothing, keyCode, recordingOf, Took, tookOf}
 use Rattle.chip.specs.Entries.{handed, scanTells, handedLit}
 use Rattle.chip.proofs.reset_chip
 use Rattle.chip.proofs.apply
@@ -51,16 +52,22 @@ recording-back nothing = refl
 recording-back (keyCode code) = refl
 
 answered : Told Recording → ScanAnswer
-answered (done what) = Took (record-of what)
-answered (refused number place) = Refused (refusalOf number place)
+answered (done what) = Answers.Took (record-of what)
+answered (refused number place) = Answers.Refused (refusalOf number place)
 
 answered-back : (a : ScanAnswer) → answered (scanTells a) ≡ a
 unfolding answered
-answered-back (Took what) = ap Took (record-back what)
-answered-back (Refused e) = ap Refused (refusal-back e)
+answered-back (Answers.Took what) = ap Answers.Took (record-back what)
+answered-back (Answers.Refused e) = ap Answers.Refused (refusal-back e)
 
 pub same-scan-answer : {a b : ScanAnswer} → scanTells a ≡ scanTells b → a ≡ b
 same-scan-answer {a} {b} e = sym (answered-back a) ∙ ap answered e ∙ answered-back b
+
+pub same-taken : {x : Took} (s t : Taken) → tookOf s ≡ x → tookOf t ≡ x → s ≡ t
+same-taken s t p q =
+    let e = same-answer p q in
+    let what = sym (record-back (s .recorded)) ∙ ap (λ x. record-of (x .recorded)) e ∙ record-back (t .recorded) in
+    λ i. record { chip = ap (λ x. x .chip) e i; recorded = what i }
 
 pub same-lit : {x : Outcome (List ℕ) (Unit {0})} (r s : Lit) → handedLit r ≡ x → handedLit s ≡ x → r ≡ s
 same-lit r s p q =
@@ -135,10 +142,7 @@ pub stepped-unique : AllowsOne edges.stepped.Kinds.ps edges.stepped.Kinds.r edge
 stepped-unique κs a x y last last′ p q = (same-answer p q, refl)
 
 pub scanned-unique : AllowsOne scans.scanned.Kinds.ps scans.scanned.Kinds.r scans.scanned.Reads.Learnt
-scanned-unique κs a x y last last′ p q =
-    let e = same-answer p q in
-    let what = sym (record-back (x .recorded)) ∙ ap (λ t. record-of (t .recorded)) e ∙ record-back (y .recorded) in
-    (λ i. record { chip = ap (λ t. t .chip) e i; recorded = what i }, refl)
+scanned-unique κs a x y last last′ p q = (same-taken x y p q, refl)
 
 pub lit-unique : AllowsOne segments.lit.Kinds.ps segments.lit.Kinds.r segments.lit.Reads.Learnt
 lit-unique κs a x y last last′ p q = (same-answer p q, refl)

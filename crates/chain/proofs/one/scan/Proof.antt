@@ -4,8 +4,7 @@ use mathlib.Core.Path.{ap, ap₂, sym, _∙_}
 use borrow.Author.Tests.{lt-ltb, le-ltb}
 use Rattle.base.specs.Refusals.{done}
 use Rattle.base.proofs.Picks.{pick-yes, pick-no}
-use Rattle.chip.specs.declared.Chip.{Chip}
-use Rattle.chip.specs.Scans.{Recording, Took, scanned, recorded}
+use Rattle.chip.specs.Scans.{Recording, Took}
 use Rattle.chain.specs.declared.Chain.{Chain}
 use Rattle.chain.specs.Entries as E
 use Rattle.chain.proofs.Tested.{by-done, by-refusal}
@@ -24,12 +23,9 @@ returns-2 c = sym (by-refusal _ _ (c .before .before .before .tested .ensures) (
 returns-3 : tie.Need-returns-3
 unfolding E.scannedOf
 returns-3 c =
-    let a = c .before .before .before .before .before .before .before .before .args in
-    let at = c .before .before .before .chip-at .ensures in
-    ap₂ (λ (ch : Chain) (what : Recording). record { state = ch; told = done what })
-    (c .with-chip .ensures ∙ ap (λ (d : Chip). E.withChip (a .k) d (a .chain)) (ap (λ (t : Took). t .chip) (c .before .before .scanned .ensures) ∙ ap (λ (d : Chip). scanned (a .bytes) d) at))
-    (ap (λ (t : Took). t .recorded) (c .before .before .scanned .ensures) ∙ ap (λ (d : Chip). recorded (a .bytes) d) at)
-    ∙ sym (by-done _ _ (c .before .before .before .before .before .before .before .tested .ensures) (c .before .before .before .before .before .enum-told .given .1) ∙ pick-yes _ _ (lt-ltb _ _ (c .before .before .before .before .if1 .left)))
+    let s = c .before .before .scan-chip .ensures in
+    ap₂ (λ (ch : Chain) (what : Recording). record { state = ch; told = done what }) (s .0) (ap (λ (t : Took). t .recorded) (s .1 .1))
+    ∙ sym (by-done _ _ (c .before .before .before .before .before .before .tested .ensures) (c .before .before .before .before .enum-told .given .1) ∙ pick-yes _ _ (lt-ltb _ _ (c .before .before .before .if1 .left)))
 
 pub scan-spec : {M : Type 1} → statement M
 scan-spec =
@@ -39,8 +35,6 @@ scan-spec =
     (λ c. search needs)
     (λ c. search needs)
     returns
-    (λ c κs. search needs)
-    (λ c κs. search needs)
     (λ c κs. search needs)
     returns-2
     returns-3)

@@ -1,18 +1,12 @@
 -- `chain::play::play` meets its contract: its tests are the definition's.
 -- Assumes nothing.
 use mathlib.Core.Path.{ap, sym, _∙_}
-use Rattle.base.specs.Refusals.{done, verdictTells}
+use Rattle.base.specs.Refusals.{done}
 use Rattle.chain.specs.declared.Chain.{Chain}
-use Rattle.chain.proofs.Tested.{by-done, by-refusal, tested-done, count-high}
+use Rattle.chain.proofs.Tested.{by-done, by-refusal}
 use borrow.Author.Needs.{needs}
 use Rattle.chain.proofs.play.play.Statement.{statement}
 use Rattle.chain.proofs.play.play.Tie as tie
-
-played-requires : tie.Need-played-requires
-unfolding Rattle.chain.specs.Entries.playedOf
-played-requires c κs =
-    let a = c .before .before .before .before .before .before .before .args in
-    count-high (a .n) (tested-done (a .n) (a .chain) (sym (c .before .before .before .before .before .tested .ensures) ∙ ap verdictTells (c .before .before .before .enum-told .given .1)) .0)
 
 returns : tie.Need-returns
 unfolding Rattle.chain.specs.Entries.playedOf
@@ -43,7 +37,7 @@ play-spec =
     (λ c κs. search needs)
     (λ c. search needs)
     (λ c. search needs)
-    played-requires
+    (λ c κs. search needs)
     returns
     returns-2
     returns-3)
