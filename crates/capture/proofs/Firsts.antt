@@ -5,13 +5,13 @@
 --     Comes                              a text's output and its end
 --     replays-so, piece-room             the output put at the front is what is promised, and has room
 --     replays-counts                     the answer counts bytes at the array's front
---     begun-more, begun-tested           chips started: the first line was ended, the chain passes the tests
+--     begun-more, begun-few              chips started: the first line was ended, and there are at most the most
 --     begun-out                          and the output and the end are those of the lines after the first
 -- Assumes nothing.
 use mathlib.Core.Path.{_≡_, refl, ap, ap₂, sym, subst, _∙_}
 use mathlib.Core.Bool.{Bool, true, false, _&&_}
 use mathlib.Core.List.{List, [], _∷_}
-use Prim.Native.Nat.{ℕ, zero, suc, _+_, _≤_, _<_}
+use Prim.Native.Nat.{ℕ, _+_, _≤_, _<_}
 use native.Mathlib.Omega.{arith}
 use borrow.Author.Tests.{le-leb, lt-leb}
 use lib.Dec.{T, eqb}
@@ -22,15 +22,15 @@ use Rattle.base.specs.Refusals.{Told, done, refused}
 use Rattle.base.proofs.Lent.{laid-counts}
 use Rattle.base.proofs.Picks.{pick-yes, pick-no}
 use Rattle.base.proofs.Tests.{by-order}
-use Rattle.chain.specs.Chain.{chipCount, testedOf}
+use Rattle.chain.specs.Chain.{most, chipCount}
 use Rattle.chain.specs.declared.Handed.{Handed}
 use Rattle.chain.specs.Entries.{handed, startChain, startedOf}
-use Rattle.chain.proofs.Passed.{start-tested, start-done}
-use Rattle.chain.proofs.Tested.{count-low}
+use Rattle.chain.proofs.Passed.{start-done}
+use Rattle.chain.proofs.Tested.{count-low, count-high}
 use Rattle.capture.specs.declared.Report.{Report}
 use Rattle.capture.specs.declared.Replayed.{Replayed}
 use Rattle.capture.specs.declared.read.Frame.{Frame}
-use Rattle.capture.specs.Lines.{Line, ended, cutOff, linesOf, bytesIn}
+use Rattle.capture.specs.Lines.{Line, ended, linesOf, bytesIn}
 use Rattle.capture.specs.Frames.{firstOf}
 use Rattle.capture.specs.Parts.{lineLength, heldIn, heldBy, Holds, firstIn, chipsIn, Ends}
 use Rattle.capture.specs.Reports.{refusalLine}
@@ -218,8 +218,8 @@ module _ (what : Report) (text : List ℕ) (end n : ℕ) (h : Handed) (fits : le
   pub begun-more : end < length text
   begun-more = omega (arith, some-goes-on what text ne .0)
 
-  pub begun-tested : testedOf n (h .chain) ≡ done tt
-  begun-tested = ap (testedOf n) started ∙ start-tested n count
+  pub begun-few : n ≤ most
+  begun-few = count-high n count
 
   pub begun-out : Comes what text (linesOut what n 2 (h .chain) (linesOf (drop (end + 1) text))) (linesEnd n 2 (linesOf (drop (end + 1) text)))
   begun-out =

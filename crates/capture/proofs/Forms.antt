@@ -3,8 +3,7 @@
 --     not-taken                           a line of no form: refused, and nothing changes
 --     samples-good, samples-bad           after 01: samples that pass their test, and that don't
 --     scan-good, scan-far                 after 02: a chip below N, and one that isn't
---     scan-below, scan-not-below          what the scan's answer says of its chip
---     scan-taken                          a scan that was taken
+--     scan-room, scan-taken               a chip scanned has room for what it writes, and is a line taken
 --     form-short, form-long               bytes too few, and too many, for any form
 --     held-samples, held-scan             what a frame holds is of a form, by its first byte and its count
 --     held-kind, held-count               or of none
@@ -23,21 +22,18 @@ use Rattle.base.specs.Pick.{pick}
 use Rattle.base.specs.Refusals.{done, refused}
 use Rattle.base.proofs.Lent.{placed-none}
 use Rattle.base.proofs.Picks.{pick-yes, pick-no}
-use Rattle.base.proofs.Tests.{by-order}
-use Rattle.chip.specs.declared.Chip.{Chip}
-use Rattle.chip.specs.Scans.{Recording}
-use Rattle.chip.specs.Entries.{scanTells}
+use Rattle.chip.specs.Scans.{tookOf, scanned, taken as tookFrom}
 use Rattle.chain.specs.declared.Chain.{Chain}
-use Rattle.chain.specs.declared.one.Scanned.{Scanned}
-use Rattle.chain.specs.Chain.{testedOf, checkedFrom}
-use Rattle.chain.specs.Entries.{chipAt, handedScan, scannedOf}
-use Rattle.chain.proofs.Passed.{scan-done, scan-past}
+use Rattle.chain.specs.declared.one.ChipScan.{ChipScan}
+use Rattle.chain.specs.Chain.{checkedFrom}
+use Rattle.chain.specs.Entries.{chipAt, withChip}
 use Rattle.capture.specs.declared.Report.{Report}
 use Rattle.capture.specs.Frames.{Form, samples, scan, other, samplesBy, samplesForm, scanForm, formOf}
 use Rattle.capture.specs.declared.walk.Took.{Took}
 use Rattle.capture.specs.Parts.{Puts, Takes, outOf}
-use Rattle.capture.specs.Reports.{atScan}
+use Rattle.capture.specs.Reports.{scanLine, atScan}
 use Rattle.capture.specs.Replay.{taken}
+use Rattle.capture.proofs.Reported.{puts-as}
 
 -- ---- a line
 
@@ -83,36 +79,23 @@ scan-good n k bytes h eight = pick-yes _ _ (both-true (lt-ltb k n h) (eq-eqb (le
 pub scan-far : (n k : ℕ) (bytes : List ℕ) → n ≤ k → scanForm n (k ∷ bytes) ≡ other
 scan-far n k bytes h = pick-no _ _ (ap (λ b. b && eqb (length bytes) 8) (le-ltb k n h))
 
-module _ (n : ℕ) (ch : Chain) (k : ℕ) (bytes : List ℕ) (passed : testedOf n ch ≡ done tt) (s : Scanned)
-    (told : handedScan s ≡ scannedOf n ch k bytes) where
-  pub scan-below : {what : Recording} → scanTells (s .answer) ≡ done what → k < n
-  scan-below e =
-      by-order n k
-      (λ h.
-      let f = ap (λ o. o .told) (told ∙ scan-past n ch passed k bytes h) in
-      let z : _≡_ {A = ℕ} 0 1 = cc in
-      absurd (omega arith))
-      (λ h. h)
+-- a chip scanned, and what is written of it
+module _ (what : Report) (n : ℕ) (ch : Chain) (k : ℕ) (bytes : List ℕ) (below : k < n) (eight : length bytes ≡ 8) (s : ChipScan)
+    (next : s .chain ≡ withChip k (scanned bytes (chipAt k ch)) ch)
+    (was : s .before ≡ chipAt k ch)
+    (took : tookOf (s .taken) ≡ tookFrom bytes (chipAt k ch)) where
+  writes : scanLine what k (s .before) (tookOf (s .taken)) ≡ atScan what k bytes (chipAt k ch)
+  writes = ap₂ (scanLine what k) was took
 
-  pub scan-not-below : {number place : ℕ} → scanTells (s .answer) ≡ refused number place → n ≤ k
-  scan-not-below e =
-      by-order n k (λ h. h)
-      (λ h.
-      let f = ap (λ o. o .told) (told ∙ scan-done n ch passed k bytes h) in
-      let z : _≡_ {A = ℕ} 0 1 = cc in
-      absurd (omega arith))
+  pub scan-room : (at room : ℕ) → at + length (outOf (taken what n ch (scanForm n (k ∷ bytes)) .told)) ≤ room
+      → at + length (scanLine what k (s .before) (tookOf (s .taken))) ≤ room
+  scan-room at room fits =
+      subst (λ piece. at + length piece ≤ room) (sym writes) (room-as what n ch at room (scan-good n k bytes below eight) fits)
 
-  -- a scan that was taken
-  pub scan-taken : (what : Report) {c : Chip} {at r : ℕ} {out out′ : List ℕ} → k < n → length bytes ≡ 8 → c ≡ chipAt k ch
-      → Puts (atScan what k bytes c) at out r out′
+  pub scan-taken : {at r : ℕ} {out out′ : List ℕ} → Puts (scanLine what k (s .before) (tookOf (s .taken))) at out r out′
       → Takes (taken what n ch (scanForm n (k ∷ bytes))) at out (record { chain = s .chain; taken = true; at = r }) out′
-  scan-taken what {at = at} {r = r} {out = out} {out′ = out′} h eight same put =
-      taken-as what n ch (scan-good n k bytes h eight)
-      (record {
-        chain = ap (λ o. o .state) (told ∙ scan-done n ch passed k bytes h);
-        taken = refl;
-        puts = subst (λ d. Puts (atScan what k bytes d) at out r out′) same put;
-      })
+  scan-taken put =
+      taken-as what n ch (scan-good n k bytes below eight) (record { chain = next; taken = refl; puts = puts-as (sym writes) put })
 
 -- ---- by the first byte
 

@@ -1,6 +1,5 @@
 pub mod Lines
 pub mod Puts
-pub mod Rises
 pub mod Reported
 pub mod Samples
 pub mod Forms

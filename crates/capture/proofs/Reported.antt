@@ -17,14 +17,13 @@ use lib.Seq.{drop-cons, getD-take, length-take-le}
 use Rattle.base.proofs.Lent.{placed-none, Fills, fills-more, fills-room, fills-over}
 use Rattle.base.proofs.Picks.{pick-yes, pick-no}
 use Rattle.chip.specs.declared.Chip.{Chip}
-use Rattle.chip.specs.declared.scans.Taken.{Taken}
 use Rattle.chip.specs.Scans as S
 use Rattle.chip.specs.Segments.{litOf}
 use Rattle.capture.specs.declared.Report.{Report}
 use Rattle.capture.specs.declared.Report.the-variants.{Words, Screen}
 use Rattle.capture.specs.Lines.{lineFor}
 use Rattle.capture.specs.Parts.{Puts}
-use Rattle.capture.specs.Reports.{screenLine, riseLine, riseLines, keyLine, sameBytes, atScan}
+use Rattle.capture.specs.Reports.{screenLine, riseLine, riseLines, keyLine, sameBytes, scanLine}
 use Rattle.capture.proofs.Puts.{line-for-length}
 
 -- ---- pieces
@@ -104,21 +103,18 @@ same-over a b i h l = ap₂ sameBytes (drop-of-length-le a h) (drop-of-length-le
 
 -- ---- a scan
 
-module _ (k : ℕ) (bytes : List ℕ) (c : Chip) (t : Taken) (e : S.tookOf t ≡ S.taken bytes c) where
-  pub scan-words : {what : Report} → what ≡ Words → atScan what k bytes c ≡ keyLine k (S.recordingOf (t .recorded))
-  scan-words w = ap (λ x. atScan x k bytes c) w ∙ ap (λ (x : S.Took). keyLine k (x .recorded)) (sym e)
+module _ (k : ℕ) (c : Chip) (t : S.Took) where
+  pub scan-words : {what : Report} → what ≡ Words → scanLine what k c t ≡ keyLine k (t .recorded)
+  scan-words w = ap (λ x. scanLine x k c t) w
 
   -- the segments lit, as the code compares them
   module _ {what : Report} {before after : List ℕ} {same : Bool} (w : what ≡ Screen) (p : before ≡ litOf c) (q : after ≡ litOf (t .chip))
       (s : same ≡ sameBytes before after) where
-    lit-same : sameBytes (litOf c) (litOf (S.scanned bytes c)) ≡ same
-    lit-same = sym (s ∙ ap₂ sameBytes p (q ∙ ap (λ (x : S.Took). litOf (x .chip)) e))
+    lit-same : sameBytes (litOf c) (litOf (t .chip)) ≡ same
+    lit-same = sym (s ∙ ap₂ sameBytes p q)
 
-    pub scan-same : same ≡ true → atScan what k bytes c ≡ []
-    scan-same y = ap (λ x. atScan x k bytes c) w ∙ pick-yes [] (screenLine k (S.scanned bytes c)) (lit-same ∙ y)
+    pub scan-same : same ≡ true → scanLine what k c t ≡ []
+    scan-same y = ap (λ x. scanLine x k c t) w ∙ pick-yes [] (screenLine k (t .chip)) (lit-same ∙ y)
 
-    pub scan-other : same ≡ false → atScan what k bytes c ≡ screenLine k (t .chip)
-    scan-other y =
-        ap (λ x. atScan x k bytes c) w
-        ∙ pick-no [] (screenLine k (S.scanned bytes c)) (lit-same ∙ y)
-        ∙ ap (λ (x : S.Took). screenLine k (x .chip)) (sym e)
+    pub scan-other : same ≡ false → scanLine what k c t ≡ screenLine k (t .chip)
+    scan-other y = ap (λ x. scanLine x k c t) w ∙ pick-no [] (screenLine k (t .chip)) (lit-same ∙ y)

@@ -1,7 +1,6 @@
 -- Lines one after another. `Walks` is the loop's invariant: what is left of the text writes what is left of the output, and ends
 -- as the whole does.
 --     held-same                          what a frame holds serves as well as the line's bytes
---     taken-tested                       a chain that passes the tests still does after a line
 --     walks-start, walks-over            the loop's start, and the text's end
 --     walks-cut                          a last line without 0AH
 --     walks-form                         what a frame holds is of the line's form
@@ -10,31 +9,28 @@
 -- Assumes nothing.
 use mathlib.Core.Path.{_≡_, refl, ap, ap₂, sym, subst, _∙_}
 use mathlib.Core.Bool.{Bool, true, false, _&&_, true≢false}
-use mathlib.Core.List.{List, [], _∷_, _++_}
-use Prim.Native.Nat.{ℕ, zero, suc, _+_, _*_, _-_, _/_, _%_, _≤_, _<_}
+use mathlib.Core.List.{List, [], _++_}
+use Prim.Native.Nat.{ℕ, suc, _+_, _-_, _%_, _≤_, _<_}
 use native.Mathlib.Numerals.{add-one}
 use native.Mathlib.Omega.{arith}
 use borrow.Author.Tests.{le-leb, lt-leb, eqb-true}
-use lib.Dec.{eqb, leb, ltb}
+use lib.Dec.{eqb}
 use lib.ListN.{length, take, drop, length-append, length-drop, drop-of-length-le}
 use lib.Seq.{drop-drop}
 use Rattle.base.specs.Lent.{placed}
 use Rattle.base.specs.Pick.{pick}
 use Rattle.base.specs.Refusals.{Told, done, refused}
 use Rattle.base.specs.declared.Verdict.the-variants.{Done}
-use Rattle.base.proofs.Lent.{Fills, fills-start, fills-more, fills-over, fills-room, placed-none}
-use Rattle.base.proofs.Picks.{pick-yes, pick-no, pick-cases}
+use Rattle.base.proofs.Lent.{Fills, fills-start, fills-more, fills-over, placed-none}
+use Rattle.base.proofs.Picks.{pick-yes, pick-no}
 use Rattle.base.proofs.Tests.{by-order}
 use Rattle.chain.specs.declared.Chain.{Chain}
-use Rattle.chain.specs.Chain.{testedOf, checkedFrom}
-use Rattle.chain.proofs.Laws.{checked-below}
-use Rattle.chain.proofs.Passed.{played-tested, scanned-tested}
 use Rattle.capture.specs.declared.Report.{Report}
 use Rattle.capture.specs.declared.Replayed.{Replayed}
 use Rattle.capture.specs.declared.read.Frame.{Frame}
 use Rattle.capture.specs.declared.walk.Took.{Took}
-use Rattle.capture.specs.Lines.{Line, ended, cutOff, linesOf, bytesIn, bytesOf, allDigits}
-use Rattle.capture.specs.Frames.{Form, samples, scan, other, samplesBy, samplesForm, scanForm, formOf}
+use Rattle.capture.specs.Lines.{ended, linesOf, bytesIn, bytesOf, allDigits}
+use Rattle.capture.specs.Frames.{Form, samples, scan, other, formOf}
 use Rattle.capture.specs.Parts.{lineLength, heldIn, heldBy, Holds, Takes, Ends, outOf, isTaken}
 use Rattle.capture.specs.Reports.{refusalLine}
 use Rattle.capture.specs.Replay.{taken, andThen, linesOut, lineEnd, linesEnd}
@@ -63,41 +59,6 @@ held-same f long chars =
     whole h true false e = refl
     whole h false b e = refl
 
--- ---- the chain after a line
-
--- a form's samples passed their test
-Fine : Form → Type 0
-Fine (samples ss) = checkedFrom 0 ss ≡ done tt
-Fine (scan k bytes) = Unit {0}
-Fine other = Unit {0}
-
-samples-fine : (ss : List ℕ) (t : Told (Unit {0})) → checkedFrom 0 ss ≡ t → Fine (samplesBy t ss)
-unfolding Fine
-samples-fine ss (done u) e = e
-samples-fine ss (refused number place) e = tt
-
-scan-fine : (n : ℕ) (rest : List ℕ) → Fine (scanForm n rest)
-unfolding Fine
-scan-fine n [] = tt
-scan-fine n (k ∷ bytes) = pick-cases Fine (ltb k n && eqb (length bytes) 8) (λ _. tt) (λ _. tt)
-
-form-fine : (n : ℕ) (bytes : List ℕ) → Fine (formOf n bytes)
-unfolding formOf Fine
-form-fine n [] = tt
-form-fine n (kind ∷ rest) =
-    pick-cases Fine (eqb kind 0x01)
-    (λ _. pick-cases Fine (leb 1 (length rest) && leb (length rest) 32) (λ _. samples-fine rest (checkedFrom 0 rest) refl) (λ _. tt))
-    (λ _. pick-cases Fine (eqb kind 0x02) (λ _. scan-fine n rest) (λ _. tt))
-
-fine-tested : (what : Report) (n : ℕ) (ch : Chain) (form : Form) → Fine form → testedOf n ch ≡ done tt → testedOf n (taken what n ch form .state) ≡ done tt
-unfolding Fine
-fine-tested what n ch (samples ss) fine t = played-tested n ch t ss (checked-below 0 ss fine)
-fine-tested what n ch (scan k bytes) fine t = scanned-tested n ch t k bytes
-fine-tested what n ch other fine t = t
-
-pub taken-tested : (what : Report) (n : ℕ) (ch : Chain) (bytes : List ℕ) → testedOf n ch ≡ done tt → testedOf n (taken what n ch (formOf n bytes) .state) ≡ done tt
-taken-tested what n ch bytes = fine-tested what n ch (formOf n bytes) (form-fine n bytes)
-
 -- ---- what a line wrote
 
 -- a line that isn't taken is of no form
@@ -124,20 +85,18 @@ pub record Walks (what : Report) (n : ℕ) (text : List ℕ) (whole : List ℕ) 
   pub within : place ≤ length text
   pub short : length text ≤ 65536
   pub few : number ≤ place + 2
-  pub tested : testedOf n next ≡ done tt
   pub room : length whole ≤ length out₀
   pub fills : Fills 0 whole out₀ at (linesOut what n number next (linesOf (drop place text))) out
   pub ends : linesEnd n number (linesOf (drop place text)) ≡ told
 
-pub walks-start : (what : Report) (n : ℕ) (text : List ℕ) (out : List ℕ) (ch : Chain) (from : ℕ) → testedOf n ch ≡ done tt → from ≤ length text → length text ≤ 65536
+pub walks-start : (what : Report) (n : ℕ) (text : List ℕ) (out : List ℕ) (ch : Chain) (from : ℕ) → from ≤ length text → length text ≤ 65536
     → length (linesOut what n 2 ch (linesOf (drop from text))) ≤ length out
     → Walks what n text (linesOut what n 2 ch (linesOf (drop from text))) (linesEnd n 2 (linesOf (drop from text))) out out ch 2 0 from
-walks-start what n text out ch from t w s r =
+walks-start what n text out ch from w s r =
     record {
       within = w;
       short = s;
       few = omega arith;
-      tested = t;
       room = r;
       fills = fills-start 0 (linesOut what n 2 ch (linesOf (drop from text))) out;
       ends = refl;
@@ -256,7 +215,6 @@ module _ {what : Report} {n : ℕ} {text whole : List ℕ} {told : Told (Unit {0
               within = omega arith;
               short = w .short;
               few = omega (arith, w .few);
-              tested = subst (λ c. testedOf n c ≡ done tt) (sym (takes-so .chain)) (taken-tested what n next (bytesIn (ended chars)) (w .tested));
               room = w .room;
               fills =
                   subst (λ xs. Fills 0 whole out₀ (t .at) xs out′) rest-so

@@ -9,7 +9,7 @@ use lib.ListN.{take}
 use Rattle.base.specs.Bits.{cut}
 use Rattle.base.specs.Pick.{pick}
 use Rattle.chip.specs.declared.Chip.{Chip}
-use Rattle.chip.specs.Scans.{Recording, nothing, keyCode, scanned, recorded}
+use Rattle.chip.specs.Scans.{Recording, nothing, keyCode, Took, taken}
 use Rattle.chip.specs.Segments.{litOf}
 use Rattle.chain.specs.declared.Chain.{Chain}
 use Rattle.capture.specs.declared.Report.{Report}
@@ -46,10 +46,14 @@ sameBytes [] (y ∷ ys) = false
 sameBytes (x ∷ xs) [] = false
 sameBytes (x ∷ xs) (y ∷ ys) = eqb x y && sameBytes xs ys
 
--- of a scan of a chip: the key recorded; or its segments lit, where they differ from those before
+-- of a chip before a scan and what the scan took: the key recorded; or its segments lit, where they differ from those before
+abbrev pub scanLine : Report → ℕ → Chip → Took → List ℕ
+scanLine Words k c t = keyLine k (t .recorded)
+scanLine Screen k c t = pick (sameBytes (litOf c) (litOf (t .chip))) [] (screenLine k (t .chip))
+
+-- of a scan of a chip
 abbrev pub atScan : Report → ℕ → List ℕ → Chip → List ℕ
-atScan Words k bytes c = keyLine k (recorded bytes c)
-atScan Screen k bytes c = pick (sameBytes (litOf c) (litOf (scanned bytes c))) [] (screenLine k (scanned bytes c))
+atScan what k bytes c = scanLine what k c (taken bytes c)
 
 -- a refusal: 1F, number, the line's number in four bytes
 abbrev pub refusalLine : ℕ → ℕ → List ℕ

@@ -4,10 +4,11 @@ use crate::put;
 use chain::Chain;
 use chip::Chip;
 use chip::Recorded;
+use chip::scans::Taken;
 ghost use mathlib.Core.Path.{_≡_};
-ghost use Prim.Native.Nat.{_+_, _*_, _≤_, _<_};
+ghost use Prim.Native.Nat.{_+_, _≤_, _<_};
 ghost use lib.ListN.{length};
-ghost use Rattle.chip.specs.Scans.{recordingOf};
+ghost use Rattle.chip.specs.Scans.{recordingOf, tookOf};
 ghost use Rattle.capture.specs.Parts as P;
 ghost use Rattle.capture.specs.Reports as R;
 
@@ -101,15 +102,14 @@ fn key_line(k: u8, what: Recorded, out: &mut [u8], at: usize) -> usize
 pub(crate) fn scan(
     what: Report,
     k: u8,
-    bytes: [u8; 8],
     before: Chip,
+    taken: Taken,
     out: &mut [u8],
     at: usize,
 ) -> usize
-    requires { ⌜ at + length (R.atScan what k bytes before) ≤ length (now out) ⌝ }
-    ensures { λ r. ⌜ P.Puts (R.atScan what k bytes before) at (now (out .entry)) r (now (out .exit)) ⌝ }
+    requires { ⌜ at + length (R.scanLine what k before (tookOf taken)) ≤ length (now out) ⌝ }
+    ensures { λ r. ⌜ P.Puts (R.scanLine what k before (tookOf taken)) at (now (out .entry)) r (now (out .exit)) ⌝ }
 {
-    let taken = chip::scans::scanned(bytes, before);
     let after = taken.chip;
     let key = taken.recorded;
     match what {

@@ -8,13 +8,11 @@ use crate::reports;
 use base::Refusal;
 use base::Verdict;
 use chain::Chain;
-use chain::finder::Rise;
-use chip::ScanAnswer;
 ghost use mathlib.Core.Path.{_≡_};
-ghost use Prim.Native.Nat.{_+_, _*_, _≤_, _<_};
-ghost use mathlib.Core.List.{List, _∷_};
+ghost use Prim.Native.Nat.{_+_, _≤_, _<_};
+ghost use mathlib.Core.List.{_∷_};
 ghost use lib.ListN.{length, drop};
-ghost use Rattle.base.specs.Refusals.{done, refused};
+ghost use Rattle.base.specs.Refusals.{refused};
 ghost use Rattle.chain.specs.Chain as C;
 ghost use Rattle.capture.specs.Frames as F;
 ghost use Rattle.capture.specs.Lines as L;
@@ -31,8 +29,7 @@ pub(crate) struct Took {
 
 // Samples that passed their test, from one LOAD rise to the next.
 fn samples(what: Report, n: usize, chain: Chain, ss: &[u8], out: &mut [u8], at: usize) -> Took
-    requires { ⌜ C.testedOf n chain ≡ done tt ⌝ }
-    requires { ⌜ C.checkedFrom 0 (now ss) ≡ done tt ⌝ }
+    requires { ⌜ n ≤ C.most ⌝ }
     requires { ⌜ at + length (R.risesIn what n (now ss) chain) ≤ length (now out) ⌝ }
     ensures { λ r. ⌜ P.Takes (R.taken what n chain (F.samples (now (ss .entry)))) at (now (out .entry)) r (now (out .exit)) ⌝ }
 {
@@ -40,24 +37,12 @@ fn samples(what: Report, n: usize, chain: Chain, ss: &[u8], out: &mut [u8], at: 
     let mut end = at;
     let mut i = 0;
     while i < ss.len() {
-        let found = chain::finder::next_rise(next.levels, &ss[i..]);
-        let stop = i + found.passed;
-        let part = chain::play::play(n, next, &ss[i..stop]);
+        let part = chain::play::to_next_rise(n, next, ss, i);
         let after = part.chain;
         next = after;
-        i = stop;
-        let rise = found.rise;
-        match rise {
-            Rise::Nothing => {
-                return Took {
-                    chain: next,
-                    taken: true,
-                    at: end,
-                };
-            }
-            Rise::At(_) => {
-                end = reports::rise(what, n, next, out, end);
-            }
+        i = part.stop;
+        if part.rose {
+            end = reports::rise(what, n, next, out, end);
         }
     }
     Took {
@@ -69,7 +54,7 @@ fn samples(what: Report, n: usize, chain: Chain, ss: &[u8], out: &mut [u8], at: 
 
 // After 01: all samples are tested before any is played.
 fn sample_line(what: Report, n: usize, chain: Chain, ss: &[u8], out: &mut [u8], at: usize) -> Took
-    requires { ⌜ C.testedOf n chain ≡ done tt ⌝ }
+    requires { ⌜ n ≤ C.most ⌝ }
     requires { ⌜ (1 ≤ length (now ss)) × (length (now ss) ≤ 32) ⌝ }
     requires { ⌜ at + length (P.outOf (R.taken what n chain (F.samplesForm (now ss)) .told)) ≤ length (now out) ⌝ }
     ensures { λ r. ⌜ P.Takes (R.taken what n chain (F.samplesForm (now (ss .entry)))) at (now (out .entry)) r (now (out .exit)) ⌝ }
@@ -95,33 +80,33 @@ fn scan_line(
     out: &mut [u8],
     at: usize,
 ) -> Took
-    requires { ⌜ C.testedOf n chain ≡ done tt ⌝ }
+    requires { ⌜ n ≤ C.most ⌝ }
     requires { ⌜ length bytes ≡ 8 ⌝ }
     requires { ⌜ at + length (P.outOf (R.taken what n chain (F.scanForm n (k ∷ bytes)) .told)) ≤ length (now out) ⌝ }
     ensures { λ r. ⌜ P.Takes (R.taken what n chain (F.scanForm n (k ∷ bytes))) at (now (out .entry)) r (now (out .exit)) ⌝ }
 {
     let place = k as usize;
-    let before = chain::one::chip_at(place, chain);
-    let scanned = chain::one::scan(n, chain, place, bytes);
-    let after = scanned.chain;
-    let answer = scanned.answer;
-    match answer {
-        ScanAnswer::Refused(_) => Took {
+    if place >= n {
+        return Took {
             chain,
             taken: false,
             at,
-        },
-        ScanAnswer::Took(_) => Took {
-            chain: after,
-            taken: true,
-            at: reports::scan(what, k, bytes, before, out, at),
-        },
+        };
+    }
+    let scanned = chain::one::scan_chip(place, bytes, chain);
+    let after = scanned.chain;
+    let before = scanned.before;
+    let taken = scanned.taken;
+    Took {
+        chain: after,
+        taken: true,
+        at: reports::scan(what, k, before, taken, out, at),
     }
 }
 
 // A line after the first.
 fn line(what: Report, n: usize, chain: Chain, frame: Frame, out: &mut [u8], at: usize) -> Took
-    requires { ⌜ C.testedOf n chain ≡ done tt ⌝ }
+    requires { ⌜ n ≤ C.most ⌝ }
     requires { ⌜ frame .count ≤ 33 ⌝ }
     requires { ⌜ at + length (P.outOf (R.taken what n chain (F.formOf n (P.heldBy frame)) .told)) ≤ length (now out) ⌝ }
     ensures { λ r. ⌜ P.Takes (R.taken what n chain (F.formOf n (P.heldBy frame))) at (now (out .entry)) r (now (out .exit)) ⌝ }
@@ -179,7 +164,7 @@ fn wrong_line(number: usize, out: &mut [u8], at: usize) -> Replayed
 
 // The lines from a place of the text on, from line 2.
 fn lines(what: Report, n: usize, chain: Chain, text: &[u8], from: usize, out: &mut [u8]) -> Replayed
-    requires { ⌜ C.testedOf n chain ≡ done tt ⌝ }
+    requires { ⌜ n ≤ C.most ⌝ }
     requires { ⌜ (from ≤ length (now text)) × (length (now text) ≤ 65536) ⌝ }
     requires { ⌜ length (R.linesOut what n 2 chain (L.linesOf (drop from (now text)))) ≤ length (now out) ⌝ }
     ensures { λ r. ⌜ P.Ends (R.linesOut what n 2 chain (L.linesOf (drop from (now (text .entry))))) (R.linesEnd n 2 (L.linesOf (drop from (now (text .entry))))) 0 (now (out .entry)) r (now (out .exit)) ⌝ }

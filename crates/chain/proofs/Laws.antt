@@ -4,6 +4,7 @@
 --     row-rest           records from n on stay, at a sample
 --     played-rest        and in a block
 --     checked-below      samples that passed refusal 1's test are below 8
+--     below-checked      and those below 8 pass it
 --     row-valid          valid records stay valid, at a sample
 --     played-valid       and a valid chain stays valid in a block of samples up to 7
 --     quiet-row          with no LOAD rise a sample leaves settings, display and key record of every chip as they are
@@ -17,12 +18,12 @@ use mathlib.Core.List.{List, [], _∷_, _++_, map, head-eq-of-cons-eq, tail-eq-o
 use Prim.Native.Nat.{ℕ, zero, suc, suc-le-suc}
 use native.Mathlib.Nat.{le-of-suc-le-suc}
 use native.Mathlib.Omega.{arith}
-use borrow.Author.Tests.{leb-true}
+use borrow.Author.Tests.{leb-true, le-leb}
 use lib.Dec.{T, leb, le→leb}
 use lib.ListN.{drop}
 use lib.Seq.{getD-set-other}
 use Rattle.base.specs.Refusals.{done}
-use Rattle.base.proofs.Picks.{pick-cases}
+use Rattle.base.proofs.Picks.{pick-yes, pick-cases}
 use Rattle.base.proofs.Tests.{and-left, and-right, and-both}
 use Rattle.chip.specs.declared.Chip.{Chip}
 use Rattle.chip.specs.Record.{Body, bodyOf, valid, resetChip}
@@ -75,6 +76,11 @@ checked-below place (s ∷ ss) e =
     (λ h c. (suc-le-suc (leb-true s 7 h), checked-below (suc place) ss c))
     (λ h c. let z : _≡_ {A = ℕ} 0 1 = cc in absurd (omega arith))
     e
+
+pub below-checked : (place : ℕ) (ss : List ℕ) → AllBelow 8 ss → checkedFrom place ss ≡ done tt
+unfolding checkedFrom
+below-checked place [] a = refl
+below-checked place (s ∷ ss) a = pick-yes _ _ (le-leb s 7 (le-of-suc-le-suc (a .0))) ∙ below-checked (suc place) ss (a .1)
 
 pub row-valid : (n was now : ℕ) (d : Bool) (cs : List Chip) → T (allValid n cs) → T (allValid n (steppedRow n was now d cs))
 unfolding steppedRow allValid

@@ -1,20 +1,20 @@
 -- Samples up to and with the next LOAD rise, `stretchFrom`, from a place of them on.
 --     stretch-more, stretch-step, stretch-over     a sample more, and no sample left
 --     each-stretch                                 what holds at an end and at a rise, and before a sample if after it, holds of a stretch
---     stretch-within, stretch-goes                 a stretch stays within the samples, and passes one at least
+--     stretch-fewer                                fewer samples are left after a stretch
 --     stretch-plays                                a stretch, and then the rest, is the whole
 --     stretch-chips                                a number of chips above those there are is as good as theirs
 -- Assumes nothing.
-use mathlib.Core.Path.{_≡_, refl, ap, ap₂, sym, subst, _∙_}
+use mathlib.Core.Path.{_≡_, refl, ap, sym, subst, _∙_}
 use mathlib.Core.Bool.{Bool, true, false}
 use mathlib.Core.List.{List, [], _∷_}
-use Prim.Native.Nat.{ℕ, zero, suc, _+_, _≤_, _<_}
+use Prim.Native.Nat.{ℕ, zero, suc, _+_, _-_, _≤_, _<_}
 use native.Mathlib.Nat.{le-of-suc-le-suc}
 use native.Mathlib.Numerals.{add-one}
 use native.Mathlib.Omega.{arith}
 use lib.ListN.{length, getD, drop, drop-of-length-le}
 use Rattle.base.specs.Pick.{pick}
-use Rattle.base.proofs.Picks.{pick-yes, pick-no, pick-cases}
+use Rattle.base.proofs.Picks.{pick-no, pick-cases}
 use Rattle.base.proofs.Tests.{by-order}
 use Rattle.chip.specs.declared.Chip.{Chip}
 use Rattle.chip.specs.Commands.{dout}
@@ -77,24 +77,24 @@ module _ (n : ℕ) (ss : List ℕ) where
       pub each-stretch : (i : ℕ) (ch : Chain) → P i ch (stretchFrom n i (drop i ss) ch)
       each-stretch i ch = stretch-of (length ss) i ch (omega arith)
 
-  pub stretch-within : (i : ℕ) (ch : Chain) → i ≤ length ss → stretchFrom n i (drop i ss) ch .stop ≤ length ss
-  stretch-within =
-      each-stretch (λ i ch t. i ≤ length ss → t .stop ≤ length ss) (λ i ch past h. h) (λ i ch more up h. omega arith)
-      (λ i ch t more still p h. p (omega arith))
-
-  pub stretch-goes : (i : ℕ) (ch : Chain) → i < length ss → i < stretchFrom n i (drop i ss) ch .stop
+  -- a stretch passes one sample at least, if there is one
+  stretch-goes : (i : ℕ) (ch : Chain) → i < length ss → i < stretchFrom n i (drop i ss) ch .stop
   stretch-goes i ch =
       each-stretch (λ i ch t. (i ≤ t .stop) × (i < length ss → i < t .stop)) (λ i ch past. (omega arith, λ h. absurd (omega arith)))
       (λ i ch more up. (omega arith, λ h. omega arith))
       (λ i ch t more still p. let past = p .0 in (omega arith, λ h. omega arith))
       i ch .1
 
-  pub stretch-plays : (i : ℕ) (ch : Chain)
-      → played n (drop (stretchFrom n i (drop i ss) ch .stop) ss) (stretchFrom n i (drop i ss) ch .chain) ≡ played n (drop i ss) ch
-  stretch-plays =
-      each-stretch (λ i ch t. played n (drop (t .stop) ss) (t .chain) ≡ played n (drop i ss) ch) (λ i ch past. refl)
+  pub stretch-fewer : (i : ℕ) (ch : Chain) (t : Stretch) → t ≡ stretchFrom n i (drop i ss) ch → i < length ss → length ss - t .stop < length ss - i
+  stretch-fewer i ch t e h = omega (arith, ap (λ s. s .stop) e, stretch-goes i ch h)
+
+  pub stretch-plays : (i : ℕ) (ch : Chain) (t : Stretch) → t ≡ stretchFrom n i (drop i ss) ch → played n (drop (t .stop) ss) (t .chain) ≡ played n (drop i ss) ch
+  stretch-plays i ch t e =
+      ap (λ s. played n (drop (s .stop) ss) (s .chain)) e
+      ∙ each-stretch (λ i ch t. played n (drop (t .stop) ss) (t .chain) ≡ played n (drop i ss) ch) (λ i ch past. refl)
       (λ i ch more up. sym (play-more n ss i ch more))
       (λ i ch t more still p. p ∙ sym (play-more n ss i ch more))
+      i ch
 
 -- ---- the number of chips
 

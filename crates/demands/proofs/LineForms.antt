@@ -15,10 +15,9 @@ use Rattle.base.specs.Refusals.{Told, IsDone, done, refused}
 use Rattle.base.proofs.Tests.{by-order, by-equality}
 use Rattle.chain.specs.Chain.{chipCount, checkedFrom}
 use Rattle.base.specs.Below.{AllBelow}
-use Rattle.chain.proofs.Laws.{checked-below}
+use Rattle.chain.proofs.Laws.{checked-below, below-checked}
 use Rattle.capture.specs.Lines.{Line, ended, bytesIn, digitsFor}
 use Rattle.capture.specs.Frames.{Form, samples, scan, other, firstOf, samplesBy, samplesForm, scanForm, formOf}
-use Rattle.capture.proofs.Rises.{below-checked}
 use Rattle.demands.specs.Refusals.{NotOneToMost}
 use Rattle.demands.specs.Texts.{FirstLine, SamplesLine, ScanLine}
 use Rattle.demands.proofs.Conditions.{Tests, passed, failed, neither, leb-tests, ltb-tests, eqb-tests, both-tests, count-tests}

@@ -1,8 +1,7 @@
 -- `capture::walk::lines` meets its contract. The invariant is `Walks`: what is left of the text writes what is left of the output,
 -- and ends as the whole does.
 -- Assumes nothing.
-use mathlib.Core.Path.{_≡_, refl, ap, sym, _∙_}
-use Prim.Native.Nat.{_+_, _-_, _≤_}
+use Prim.Native.Nat.{_-_}
 use native.Mathlib.Omega.{arith}
 use borrow.Author.Tests.{not-true, not-false}
 use lib.ListN.{length, drop}
@@ -24,7 +23,7 @@ loop-holds : tie.Need-loop-holds Inv-loop μ-loop
 loop-holds c =
     let a = c .before .before .args in
     let p = c .before .before .pre in
-    walks-start (a .what) (a .n) (a .text .now) (a .out .now) (a .chain) (a .from) (p .0) (p .1 .0 .0) (p .1 .0 .1) (p .1 .1)
+    walks-start (a .what) (a .n) (a .text .now) (a .out .now) (a .chain) (a .from) (p .1 .0 .0) (p .1 .0 .1) (p .1 .1)
 
 wrong-line-requires : tie.Need-wrong-line-requires Inv-loop μ-loop
 wrong-line-requires c κs =
@@ -56,7 +55,7 @@ line-requires c κs =
     let l = c .before .before .before .before .before .before .loop in
     let e = c .before .before .before .before .line-end in
     let f = c .before .frame-of in
-    (l .inv .tested, (omega (arith, f .ensures .count, f .ensures .room), walks-room (l .inv) (e .result) (e .ensures) (c .before .before .before .if1 .left) (f .result) (f .ensures)))
+    (c .before .before .before .before .before .before .before .before .before .pre .0, (omega (arith, f .ensures .count, f .ensures .room), walks-room (l .inv) (e .result) (e .ensures) (c .before .before .before .if1 .left) (f .result) (f .ensures)))
 
 wrong-line-requires-2 : tie.Need-wrong-line-requires-2 Inv-loop μ-loop
 wrong-line-requires-2 c κs =

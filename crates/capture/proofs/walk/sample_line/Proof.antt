@@ -14,7 +14,7 @@ samples-requires c κs =
     let p = c .before .before .before .before .before .before .pre in
     let e = sym (c .before .before .before .checked .ensures) ∙ ap verdictTells (c .before .enum-told2 .given .1) in
     let good = samples-good (a .ss .now) (p .1 .0 .0) (p .1 .0 .1) e in
-    (p .0, (e, room-as (a .what) (a .n) (a .chain) (a .at) (length (a .out .now)) good (p .1 .1)))
+    (p .0, room-as (a .what) (a .n) (a .chain) (a .at) (length (a .out .now)) good (p .1 .1))
 
 returns : tie.Need-returns
 returns c =

@@ -1,18 +1,11 @@
 -- `capture::walk::whole` meets its contract: a text too long, one whose first line is refused, and the lines after the first.
 -- Assumes nothing.
-use mathlib.Core.Path.{_≡_, refl, ap, sym, subst, _∙_}
-use Prim.Native.Nat.{ℕ, _+_, _≤_}
+use mathlib.Core.Path.{_≡_, refl, sym, _∙_}
 use native.Mathlib.Omega.{arith}
-use lib.Dec.{T}
-use lib.ListN.{length, drop}
-use Rattle.base.proofs.Picks.{pick-yes}
-use Rattle.chain.specs.Chain.{chipCount, testedOf}
-use Rattle.chain.specs.Entries.{startChain}
-use Rattle.capture.specs.Lines.{linesOf}
-use Rattle.capture.specs.Parts.{lineLength, firstIn, chipsIn}
-use Rattle.capture.specs.Replay.{linesOut}
+use lib.ListN.{length}
+use Rattle.capture.specs.Parts.{lineLength}
 use Rattle.capture.proofs.Puts.{refusal-length}
-use Rattle.capture.proofs.Firsts.{long-out, none-out, replays-so, piece-room, begun-more, begun-tested, begun-out}
+use Rattle.capture.proofs.Firsts.{long-out, none-out, replays-so, piece-room, begun-more, begun-few, begun-out}
 use borrow.Author.Needs.{needs}
 use Rattle.capture.proofs.walk.whole.Statement.{statement}
 use Rattle.capture.proofs.walk.whole.Tie as tie
@@ -58,7 +51,7 @@ lines-requires c κs =
     let e : end .result ≡ lineLength (a .text .now) = omega (arith, end .ensures) in
     let out = begun-out (a .what) (a .text .now) (end .result) (first .result) (start .result) short e (first .ensures) (c .before .before .before .if2 .left) (start .ensures) in
     let more = begun-more (a .what) (a .text .now) (end .result) (first .result) (start .result) short e (first .ensures) (c .before .before .before .if2 .left) (start .ensures) in
-    (begun-tested (a .what) (a .text .now) (end .result) (first .result) (start .result) short e (first .ensures) (c .before .before .before .if2 .left) (start .ensures), ((omega (arith, more), short), piece-room (length (a .out .now)) (out .0) (c .before .before .before .before .before .before .before .before .before .pre)))
+    (begun-few (a .what) (a .text .now) (end .result) (first .result) (start .result) short e (first .ensures) (c .before .before .before .if2 .left) (start .ensures), ((omega (arith, more), short), piece-room (length (a .out .now)) (out .0) (c .before .before .before .before .before .before .before .before .before .pre)))
 
 returns-3 : tie.Need-returns-3
 returns-3 c =

@@ -1,13 +1,11 @@
 -- `chain::play::played` meets its contract. The invariant: the rest, played from here, is the whole played.
 -- Assumes nothing.
-use mathlib.Core.Path.{_≡_, refl, ap, sym, _∙_}
+use mathlib.Core.Path.{_≡_, refl, sym, _∙_}
 use Prim.Native.Nat.{_-_}
-use native.Mathlib.Omega.{arith}
 use lib.ListN.{length, drop}
-use Rattle.chain.specs.declared.play.Stretch.{Stretch}
 use Rattle.chain.specs.Chain.{played}
 use Rattle.chain.proofs.Rest.{play-over}
-use Rattle.chain.proofs.Stretch.{stretch-goes, stretch-plays}
+use Rattle.chain.proofs.Stretch.{stretch-fewer, stretch-plays}
 use borrow.Author.Needs.{needs}
 use Rattle.chain.proofs.play.played.Statement.{statement}
 use Rattle.chain.proofs.play.played.Tie as tie
@@ -22,16 +20,13 @@ loop-less : tie.Need-loop-less Inv-loop μ-loop
 loop-less c =
     let o = c .before .before .before .loop in
     let a = c .before .before .before .before .before .args in
-    let e = ap (λ (t : Stretch). t .stop) (c .before .to-next-rise .ensures) in
-    omega (arith, e, stretch-goes (a .n) (a .samples .now) (o .i) (o .next) (c .before .before .loop-test .taken))
+    stretch-fewer (a .n) (a .samples .now) (o .i) (o .next) (c .before .to-next-rise .result) (c .before .to-next-rise .ensures) (c .before .before .loop-test .taken)
 
 loop-again : tie.Need-loop-again Inv-loop μ-loop
 loop-again c =
     let o = c .before .before .before .loop in
     let a = c .before .before .before .before .before .args in
-    ap (λ (t : Stretch). played (a .n) (drop (t .stop) (a .samples .now)) (t .chain)) (c .before .to-next-rise .ensures)
-    ∙ stretch-plays (a .n) (a .samples .now) (o .i) (o .next)
-    ∙ o .inv
+    stretch-plays (a .n) (a .samples .now) (o .i) (o .next) (c .before .to-next-rise .result) (c .before .to-next-rise .ensures) ∙ o .inv
 
 returns : tie.Need-returns Inv-loop μ-loop
 returns c =

@@ -12,7 +12,6 @@ use Rattle.base.proofs.Picks.{pick-yes}
 use Rattle.chip.specs.declared.Chip.{Chip}
 use Rattle.chip.specs.Commands as C
 use Rattle.chip.specs.Edges.{din}
-use Rattle.chain.specs.declared.Chain.{Chain}
 use Rattle.chain.specs.Chain.{steppedRow}
 use Rattle.chain.specs.Stretch.{stretchFrom}
 use Rattle.chain.proofs.Rest.{row-more, row-over}

@@ -1,6 +1,6 @@
 -- `chain::play::to_next_rise` meets its contract: there are no more chips than the most.
 -- Assumes nothing.
-use mathlib.Core.Path.{_≡_, sym, _∙_}
+use mathlib.Core.Path.{_≡_, _∙_}
 use native.Mathlib.Omega.{arith}
 use lib.ListN.{length, drop}
 use Rattle.base.proofs.Lists.{length-mapped}
