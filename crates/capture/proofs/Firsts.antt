@@ -29,13 +29,15 @@ use Rattle.chain.proofs.Passed.{start-done}
 use Rattle.chain.proofs.Tested.{count-low, count-high}
 use Rattle.capture.specs.declared.Report.{Report}
 use Rattle.capture.specs.declared.Replayed.{Replayed}
-use Rattle.capture.specs.declared.read.Frame.{Frame}
-use Rattle.capture.specs.Lines.{Line, ended, linesOf, bytesIn}
+use Rattle.lines.specs.declared.Frame.{Frame}
+use Rattle.lines.specs.Answers.{lineLength, heldIn, frameFor, heldBy}
+use Rattle.lines.specs.Lines.{Line, ended, linesOf, bytesIn}
+use Rattle.lines.proofs.Frames.{Holds, frame-holds}
+use Rattle.lines.proofs.Lines.{lines-next, lines-last}
 use Rattle.capture.specs.Frames.{firstOf}
-use Rattle.capture.specs.Parts.{lineLength, heldIn, heldBy, Holds, firstIn, chipsIn, Ends}
+use Rattle.capture.specs.Parts.{firstIn, chipsIn, Ends}
 use Rattle.capture.specs.Reports.{refusalLine}
 use Rattle.capture.specs.Replay.{linesOut, afterFirst, allOut, outputOf, linesEnd, firstEnd, allEnd, endOf, Replays}
-use Rattle.capture.proofs.Lines.{lines-next, lines-last}
 use Rattle.capture.proofs.Walks.{held-same}
 
 -- ---- where the first line ends
@@ -76,7 +78,10 @@ three-held (a ∷ b ∷ c ∷ more) h = refl
 -- ---- by what its frame holds
 
 module _ (text : List ℕ) (end : ℕ) (here : end ≡ lineLength text) (more : end < length text) (f : Frame)
-    (holds : Holds f (heldIn (take end text))) (size : length (f .bytes) ≡ 33) where
+    (reads : f ≡ frameFor (heldIn (take end text))) (size : length (f .bytes) ≡ 33) where
+  holds : Holds f (heldIn (take end text))
+  holds = frame-holds (take end text) reads
+
   -- the first line says what the frame says
   frame-says : firstIn (linesOf text) ≡ firstOf (heldBy f)
   frame-says =

@@ -30,8 +30,9 @@ use Rattle.chain.specs.Entries.{chipAt, withChip}
 use Rattle.capture.specs.declared.Report.{Report}
 use Rattle.capture.specs.Frames.{Form, samples, scan, other, samplesBy, samplesForm, scanForm, formOf}
 use Rattle.capture.specs.declared.walk.Took.{Took}
-use Rattle.capture.specs.Parts.{Puts, Takes, outOf}
+use Rattle.capture.specs.Parts.{Takes, outOf}
 use Rattle.capture.specs.Reports.{scanLine, atScan}
+use Rattle.lines.specs.Answers.{Puts}
 use Rattle.capture.specs.Replay.{taken}
 use Rattle.capture.proofs.Reported.{puts-as}
 

@@ -12,14 +12,14 @@ use Rattle.base.specs.Refusals.{Told, done, refused, IsDone}
 use Rattle.base.proofs.Picks.{pick-yes}
 use Rattle.chain.specs.declared.Chain.{Chain}
 use Rattle.chain.specs.Entries.{startChain}
+use Rattle.lines.specs.Lines.{Line, newline, linesOf, bytesIn}
+use Rattle.lines.proofs.Lines.{lines-append}
 use Rattle.capture.specs.declared.Report.{Report}
-use Rattle.capture.specs.Lines.{Line, newline, linesOf, bytesIn}
 use Rattle.capture.specs.Frames.{firstOf}
 use Rattle.capture.specs.Reports.{refusalLine}
 use Rattle.capture.specs.Replay.{andThen, linesOut, afterFirst, allOut, outputOf}
 use Rattle.capture.specs.Parts.{outOf}
 use Rattle.capture.specs.Law.{lineTaken, AllTaken, after, wrote}
-use Rattle.capture.proofs.Lines.{lines-append}
 
 done-then : (t : Told (List ℕ)) (line : ℕ) (rest : List ℕ) → IsDone t → andThen t line rest ≡ outOf t ++ rest
 done-then (done out) line rest y = refl

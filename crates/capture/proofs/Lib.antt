@@ -1,5 +1,3 @@
-pub mod Lines
-pub mod Puts
 pub mod Reported
 pub mod Samples
 pub mod Forms

@@ -1,6 +1,7 @@
 -- What is written at a LOAD rise and at a scan, seen from the places of the code that writes it.
 --     none-put, puts-as                           nothing put, and a piece put that is the same as another
---     screen-length, ten-length, screen-put       the segments lit of a chip
+--     line-put, refusal-length                    a line put where there is room for it, and how long a refusal is
+--     screen-length, screen-put                   the segments lit of a chip
 --     left-room, left-more, left-over             the loop over the chips at a LOAD rise; its invariant is `Fills` of crate base
 --     same-more, same-over                        the same bytes, from a place on
 --     scan-words, scan-same, scan-other           what a scan writes, case by case
@@ -19,12 +20,12 @@ use Rattle.base.proofs.Picks.{pick-yes, pick-no}
 use Rattle.chip.specs.declared.Chip.{Chip}
 use Rattle.chip.specs.Scans as S
 use Rattle.chip.specs.Segments.{litOf}
+use Rattle.lines.specs.Answers.{fitting, Puts}
+use Rattle.lines.specs.Lines.{lineFor, fourBytes}
+use Rattle.lines.proofs.Puts.{line-for-length, put-whole}
 use Rattle.capture.specs.declared.Report.{Report}
 use Rattle.capture.specs.declared.Report.the-variants.{Words, Screen}
-use Rattle.capture.specs.Lines.{lineFor}
-use Rattle.capture.specs.Parts.{Puts}
-use Rattle.capture.specs.Reports.{screenLine, riseLine, riseLines, keyLine, sameBytes, scanLine}
-use Rattle.capture.proofs.Puts.{line-for-length}
+use Rattle.capture.specs.Reports.{screenLine, riseLine, riseLines, keyLine, sameBytes, scanLine, refusalLine}
 
 -- ---- pieces
 
@@ -33,6 +34,14 @@ none-put at out = record { answer = omega arith; bytes = sym (placed-none out at
 
 pub puts-as : {p q : List ℕ} {at : ℕ} {out : List ℕ} {r : ℕ} {out′ : List ℕ} → p ≡ q → Puts q at out r out′ → Puts p at out r out′
 puts-as {at = at} {out = out} {r = r} {out′ = out′} e = subst (λ piece. Puts piece at out r out′) (sym e)
+
+pub line-put : {p : List ℕ} (bytes : List ℕ) {at : ℕ} {out : List ℕ} {r : ℕ} {out′ : List ℕ} → p ≡ lineFor bytes → at + length p ≤ length out
+    → Puts (fitting (lineFor bytes) at out) at out r out′
+    → Puts p at out r out′
+line-put bytes {at} {out} e room put = puts-as e (put-whole (subst (λ piece. at + length piece ≤ length out) e room) put)
+
+pub refusal-length : (number line : ℕ) → length (refusalLine number line) ≡ 13
+refusal-length number line = line-for-length (0x1F ∷ number ∷ fourBytes line)
 
 -- ---- the segments lit of a chip
 
@@ -43,9 +52,6 @@ screen-length k c = line-for-length (0x30 ∷ k ∷ litOf c)
 abbrev pub tenBytes : ℕ → List ℕ → List ℕ
 tenBytes k lit =
     0x30 ∷ k ∷ getD lit 0 0 ∷ getD lit 1 0 ∷ getD lit 2 0 ∷ getD lit 3 0 ∷ getD lit 4 0 ∷ getD lit 5 0 ∷ getD lit 6 0 ∷ getD lit 7 0 ∷ []
-
-pub ten-length : (k : ℕ) (lit : List ℕ) → length (lineFor (tenBytes k lit)) ≡ 21
-ten-length k lit = line-for-length (tenBytes k lit)
 
 pub screen-put : (k : ℕ) (c : Chip) {lit : List ℕ} → lit ≡ litOf c → screenLine k c ≡ lineFor (tenBytes k lit)
 screen-put k c e = ap (λ lit. lineFor (tenBytes k lit)) (sym e)

@@ -26,15 +26,16 @@ use Rattle.chain.specs.declared.Chain.{Chain}
 use Rattle.chain.specs.Chain.{chipCount, checkedFrom, steppedChain}
 use Rattle.chain.specs.Entries.{startChain, chipAt}
 use Rattle.chain.proofs.Tested.{count-high}
+use Rattle.lines.specs.Lines.{Line, ended, cutOff, linesOf, allHex, bytesOf, bytesIn}
+use Rattle.lines.proofs.Lines.{bytes-length, charsIn, chars-in}
+use Rattle.lines.proofs.Puts.{line-for-length}
 use Rattle.capture.specs.declared.Report.{Report}
 use Rattle.capture.specs.declared.Report.the-variants.{Words, Screen}
-use Rattle.capture.specs.Lines.{Line, ended, cutOff, linesOf, allDigits, bytesOf, bytesIn}
 use Rattle.capture.specs.Frames.{Form, samplesBy, scanForm, formOf, firstOf}
 use Rattle.capture.specs.Reports.{riseLine, riseLines, atRise, keyLine, sameBytes, atScan, refusalLine}
 use Rattle.capture.specs.Replay.{risesIn, taken, andThen, linesOut, afterFirst, allOut, outputOf}
 use Rattle.capture.specs.Parts.{outOf}
-use Rattle.capture.proofs.Lines.{bytes-length, charsIn, chars-in}
-use Rattle.capture.proofs.Puts.{line-for-length, refusal-length}
+use Rattle.capture.proofs.Reported.{refusal-length}
 use Rattle.capture.proofs.Reported.{screen-length}
 
 -- how long a chip's line is: 4 bytes or 10, as digits, and 0AH; a key's is shorter
@@ -107,7 +108,7 @@ rises-room what n ss ch h = omega (arith, rises-spare what n ss ch h, spare-le (
 bytes-room : (l : Line) → 2 * length (bytesIn l) ≤ charsIn (l ∷ [])
 unfolding charsIn
 bytes-room (ended cs) =
-    pick-cases (λ bytes. 2 * length bytes ≤ length cs + 1 + 0) (allDigits cs && eqb (length cs % 2) 0) {x = bytesOf cs} {y = []} (λ _. omega (arith, bytes-length cs))
+    pick-cases (λ bytes. 2 * length bytes ≤ length cs + 1 + 0) (allHex cs && eqb (length cs % 2) 0) {x = bytesOf cs} {y = []} (λ _. omega (arith, bytes-length cs))
     (λ _. omega arith)
 bytes-room (cutOff cs) = omega arith
 

@@ -20,9 +20,10 @@ use Rattle.chain.specs.Chain.{steppedChain, played}
 use Rattle.chain.specs.Stretch.{stretchFrom}
 use Rattle.chain.proofs.Rest.{rest-is}
 use Rattle.chain.proofs.Stretch.{each-stretch, stretch-plays}
+use Rattle.lines.specs.Answers.{Puts}
 use Rattle.capture.specs.declared.Report.{Report}
 use Rattle.capture.specs.Frames.{samples}
-use Rattle.capture.specs.Parts.{Puts, Takes}
+use Rattle.capture.specs.Parts.{Takes}
 use Rattle.capture.specs.Reports.{atRise}
 use Rattle.capture.specs.Replay.{risesIn, taken}
 

@@ -3,7 +3,7 @@
 --     held-same                          what a frame holds serves as well as the line's bytes
 --     walks-start, walks-over            the loop's start, and the text's end
 --     walks-cut                          a last line without 0AH
---     walks-form                         what a frame holds is of the line's form
+--     walks-count, walks-form            how many bytes a frame holds, and that they are of the line's form
 --     walks-room, walks-refusal-room     there is room for what a line writes, and for its refusal
 --     walks-refused, walks-more          a line that is refused, and one more line
 -- Assumes nothing.
@@ -25,17 +25,19 @@ use Rattle.base.proofs.Lent.{Fills, fills-start, fills-more, fills-over, placed
 use Rattle.base.proofs.Picks.{pick-yes, pick-no}
 use Rattle.base.proofs.Tests.{by-order}
 use Rattle.chain.specs.declared.Chain.{Chain}
+use Rattle.lines.specs.declared.Frame.{Frame}
+use Rattle.lines.specs.Answers.{lineLength, heldIn, frameFor, heldBy}
+use Rattle.lines.specs.Lines.{ended, linesOf, bytesIn, bytesOf, allHex}
+use Rattle.lines.proofs.Frames.{Holds, frame-holds}
+use Rattle.lines.proofs.Lines.{bytes-half, lines-next, lines-last}
 use Rattle.capture.specs.declared.Report.{Report}
 use Rattle.capture.specs.declared.Replayed.{Replayed}
-use Rattle.capture.specs.declared.read.Frame.{Frame}
 use Rattle.capture.specs.declared.walk.Took.{Took}
-use Rattle.capture.specs.Lines.{ended, linesOf, bytesIn, bytesOf, allDigits}
 use Rattle.capture.specs.Frames.{Form, samples, scan, other, formOf}
-use Rattle.capture.specs.Parts.{lineLength, heldIn, heldBy, Holds, Takes, Ends, outOf, isTaken}
+use Rattle.capture.specs.Parts.{Takes, Ends, outOf, isTaken}
 use Rattle.capture.specs.Reports.{refusalLine}
 use Rattle.capture.specs.Replay.{taken, andThen, linesOut, lineEnd, linesEnd}
-use Rattle.capture.proofs.Lines.{bytes-half, lines-next, lines-last}
-use Rattle.capture.proofs.Puts.{refusal-length}
+use Rattle.capture.proofs.Reported.{refusal-length}
 use Rattle.capture.proofs.Forms.{form-long}
 
 -- ---- what a frame holds
@@ -50,7 +52,7 @@ pub held-same {ℓ} : {A : Type ℓ} (f : List ℕ → A) → ((bytes : List ℕ
     → f (heldIn chars) ≡ f (bytesIn (ended chars))
 held-same f long chars =
     by-order (length chars) 66 (λ h. ap f (pick-yes _ _ (le-leb (length chars) 66 h)))
-    (λ h. ap f (pick-no _ _ (lt-leb (length chars) 66 h)) ∙ sym (whole h (allDigits chars) (eqb (length chars % 2) 0) refl))
+    (λ h. ap f (pick-no _ _ (lt-leb (length chars) 66 h)) ∙ sym (whole h (allHex chars) (eqb (length chars % 2) 0) refl))
   where
     whole : 66 < length chars → (a b : Bool) → eqb (length chars % 2) 0 ≡ b → f (pick (a && b) (bytesOf chars) []) ≡ f []
     whole h true true e =
@@ -169,7 +171,13 @@ module _ {what : Report} {n : ℕ} {text whole : List ℕ} {told : Told (Unit {0
     line-fits (done piece) rest e = omega (arith, last-room (piece ++ rest) e, length-append piece rest)
     line-fits (refused why p) rest e = omega (arith, last-room (refusalLine why number) e)
 
-    module _ (f : Frame) (holds : Holds f (heldIn (take (end - place) left))) where
+    module _ (f : Frame) (reads : f ≡ frameFor (heldIn (take (end - place) left))) where
+      holds : Holds f (heldIn (take (end - place) left))
+      holds = frame-holds (take (end - place) left) reads
+
+      pub walks-count : f .count ≤ 33
+      walks-count = omega (arith, holds .count, holds .room)
+
       pub walks-form : formOf n (heldBy f) ≡ form
       walks-form =
           let same : end - place ≡ lineLength left = omega arith in

@@ -5,8 +5,8 @@ use Prim.Native.Nat.{ℕ}
 use mathlib.Core.List.{List, [], _∷_, _++_}
 use Rattle.base.specs.Refusals.{Told, done, refused, IsDone, Outcome}
 use Rattle.chain.specs.declared.Chain.{Chain}
+use Rattle.lines.specs.Lines.{Line, bytesIn}
 use Rattle.capture.specs.declared.Report.{Report}
-use Rattle.capture.specs.Lines.{Line, bytesIn}
 use Rattle.capture.specs.Frames.{formOf}
 use Rattle.capture.specs.Reports.{refusalLine}
 use Rattle.capture.specs.Replay.{taken}

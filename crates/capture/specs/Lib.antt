@@ -1,4 +1,3 @@
-pub mod Lines
 pub mod Frames
 pub mod Reports
 pub mod Replay

@@ -12,9 +12,9 @@ use Rattle.chip.specs.declared.Chip.{Chip}
 use Rattle.chip.specs.Scans.{Recording, nothing, keyCode, Took, taken}
 use Rattle.chip.specs.Segments.{litOf}
 use Rattle.chain.specs.declared.Chain.{Chain}
+use Rattle.lines.specs.Lines.{lineFor, fourBytes}
 use Rattle.capture.specs.declared.Report.{Report}
 use Rattle.capture.specs.declared.Report.the-variants.{Words, Screen}
-use Rattle.capture.specs.Lines.{lineFor, fourBytes}
 
 -- the segments lit of a chip: 30, chip, eight bytes, DIG0 first
 abbrev pub screenLine : ℕ → Chip → List ℕ

@@ -1,7 +1,6 @@
 // Capture text: a whole text replayed into a lent array that always suffices. One walk over the text serves two reports: the
 // words obeyed and the keys recorded, and the segments lit. The entries are `replay` and `screen`; nothing else is public.
 mod put;
-mod read;
 mod reports;
 mod walk;
 

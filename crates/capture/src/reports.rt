@@ -1,6 +1,5 @@
 // What is written at a LOAD rise and at a scan.
 use crate::Report;
-use crate::put;
 use chain::Chain;
 use chip::Chip;
 use chip::Recorded;
@@ -9,7 +8,7 @@ ghost use mathlib.Core.Path.{_≡_};
 ghost use Prim.Native.Nat.{_+_, _≤_, _<_};
 ghost use lib.ListN.{length};
 ghost use Rattle.chip.specs.Scans.{recordingOf, tookOf};
-ghost use Rattle.capture.specs.Parts as P;
+ghost use Rattle.lines.specs.Answers as P;
 ghost use Rattle.capture.specs.Reports as R;
 
 // The segments lit of a chip: 30, chip, eight bytes.
@@ -30,7 +29,7 @@ fn screen_line(k: u8, chip: Chip, out: &mut [u8], at: usize) -> usize
         lit[6],
         lit[7],
     ];
-    put::line(&bytes, out, at)
+    lines::put_line(&bytes, out, at)
 }
 
 // One chip after a LOAD rise: its register, which the rise obeyed, or its segments lit.
@@ -47,7 +46,7 @@ fn rise_line(what: Report, k: u8, chip: Chip, out: &mut [u8], at: usize) -> usiz
                 base::field(w, 8, 8) as u8,
                 base::field(w, 0, 8) as u8,
             ];
-            put::line(&bytes, out, at)
+            lines::put_line(&bytes, out, at)
         }
         Report::Screen => screen_line(k, chip, out, at),
     }
@@ -93,7 +92,7 @@ fn key_line(k: u8, what: Recorded, out: &mut [u8], at: usize) -> usize
         Recorded::Nothing => at,
         Recorded::Key(code) => {
             let bytes = [0x11, k, code];
-            put::line(&bytes, out, at)
+            lines::put_line(&bytes, out, at)
         }
     }
 }

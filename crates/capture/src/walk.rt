@@ -2,20 +2,20 @@
 use crate::Replayed;
 use crate::Report;
 use crate::put;
-use crate::read;
-use crate::read::Frame;
 use crate::reports;
 use base::Refusal;
 use base::Verdict;
 use chain::Chain;
+use lines::Frame;
 ghost use mathlib.Core.Path.{_≡_};
 ghost use Prim.Native.Nat.{_+_, _≤_, _<_};
 ghost use mathlib.Core.List.{_∷_};
 ghost use lib.ListN.{length, drop};
 ghost use Rattle.base.specs.Refusals.{refused};
 ghost use Rattle.chain.specs.Chain as C;
+ghost use Rattle.lines.specs.Answers.{lineLength, heldBy};
+ghost use Rattle.lines.specs.Lines as L;
 ghost use Rattle.capture.specs.Frames as F;
-ghost use Rattle.capture.specs.Lines as L;
 ghost use Rattle.capture.specs.Parts as P;
 ghost use Rattle.capture.specs.Replay as R;
 ghost use Rattle.capture.specs.Reports.{refusalLine};
@@ -108,8 +108,8 @@ fn scan_line(
 fn line(what: Report, n: usize, chain: Chain, frame: Frame, out: &mut [u8], at: usize) -> Took
     requires { ⌜ n ≤ C.most ⌝ }
     requires { ⌜ frame .count ≤ 33 ⌝ }
-    requires { ⌜ at + length (P.outOf (R.taken what n chain (F.formOf n (P.heldBy frame)) .told)) ≤ length (now out) ⌝ }
-    ensures { λ r. ⌜ P.Takes (R.taken what n chain (F.formOf n (P.heldBy frame))) at (now (out .entry)) r (now (out .exit)) ⌝ }
+    requires { ⌜ at + length (P.outOf (R.taken what n chain (F.formOf n (heldBy frame)) .told)) ≤ length (now out) ⌝ }
+    ensures { λ r. ⌜ P.Takes (R.taken what n chain (F.formOf n (heldBy frame))) at (now (out .entry)) r (now (out .exit)) ⌝ }
 {
     let count = frame.count;
     let bytes = frame.bytes;
@@ -174,11 +174,11 @@ fn lines(what: Report, n: usize, chain: Chain, text: &[u8], from: usize, out: &m
     let mut at = 0;
     let mut place = from;
     while place < text.len() {
-        let end = read::line_end(text, place);
+        let end = lines::line_end(text, place);
         if end >= text.len() {
             return wrong_line(number, out, at);
         }
-        let frame = read::frame_of(&text[place..end]);
+        let frame = lines::frame_of(&text[place..end]);
         let took = line(what, n, next, frame, out, at);
         if !took.taken {
             return wrong_line(number, out, at);
@@ -197,13 +197,13 @@ fn lines(what: Report, n: usize, chain: Chain, text: &[u8], from: usize, out: &m
 
 // N of the first line, 00 01 N; 0 where it isn't of that form.
 fn first(text: &[u8], end: usize) -> usize
-    requires { ⌜ end ≡ P.lineLength (now text) ⌝ }
+    requires { ⌜ end ≡ lineLength (now text) ⌝ }
     ensures { λ r. ⌜ r ≡ P.chipsIn (P.firstIn (L.linesOf (now (text .entry)))) ⌝ }
 {
     if end >= text.len() {
         return 0;
     }
-    let frame = read::frame_of(&text[..end]);
+    let frame = lines::frame_of(&text[..end]);
     let bytes = frame.bytes;
     if frame.count != 3 {
         return 0;
@@ -232,7 +232,7 @@ pub(crate) fn whole(what: Report, text: &[u8], out: &mut [u8]) -> Replayed
             answer: Verdict::Refused(Refusal::Text),
         };
     }
-    let end = read::line_end(text, 0);
+    let end = lines::line_end(text, 0);
     let n = first(text, end);
     if n == 0 {
         return wrong_line(1, out, 0);

@@ -13,8 +13,8 @@ use Rattle.base.specs.Refusals.{Told, done, refused, IsDone}
 use Rattle.word.specs.Words.{decodedOf}
 use Rattle.chain.specs.Finder.{foundOf}
 use Rattle.writer.specs.Written.{answerOf}
+use Rattle.lines.specs.Lines.{Line, linesOf}
 use Rattle.capture.specs.declared.Report.the-variants.{Words}
-use Rattle.capture.specs.Lines.{Line, linesOf}
 use Rattle.capture.specs.Replay.{endOf, outputOf}
 use Rattle.zhaqsumir.specs.Commands.{commandFrom}
 use Rattle.zhaqsumir.specs.Numbers.{numberIn, placeIn, numberOr0, kindAndFields, isRise, risePlace, encodedBy, decodeNumbers, encodeNumbers, findNumbers, WritesNumbers, ReplaysNumbers}

@@ -8,8 +8,8 @@ use mathlib.Core.List.{List, [], _∷_, head-eq-of-cons-eq, tail-eq-of-cons-eq}
 use Prim.Native.Nat.{ℕ, suc}
 use lib.ListN.{length}
 use Rattle.base.specs.Refusals.{Told}
+use Rattle.lines.specs.Lines.{Line, linesOf, bytesIn}
 use Rattle.capture.specs.declared.Report.the-variants.{Words, Screen}
-use Rattle.capture.specs.Lines.{Line, linesOf, bytesIn}
 use Rattle.capture.specs.Frames.{Form, firstOf, formOf}
 use Rattle.capture.specs.Replay.{outputOf, lineEnd, linesEnd, firstEnd, allEnd, endOf}
 use Rattle.demands.specs.Exact.{each, Exactly}

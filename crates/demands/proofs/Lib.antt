@@ -16,7 +16,7 @@ pub mod Exact
 pub mod ExactChain
 pub mod ExactWriter
 pub mod ExactLibrary
-pub mod Digits
+pub mod Hex
 pub mod LineForms
 pub mod Outputs
 pub mod ExactText

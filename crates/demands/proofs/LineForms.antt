@@ -16,12 +16,12 @@ use Rattle.base.proofs.Tests.{by-order, by-equality}
 use Rattle.chain.specs.Chain.{chipCount, checkedFrom}
 use Rattle.base.specs.Below.{AllBelow}
 use Rattle.chain.proofs.Laws.{checked-below, below-checked}
-use Rattle.capture.specs.Lines.{Line, ended, bytesIn, digitsFor}
+use Rattle.lines.specs.Lines.{Line, ended, bytesIn, asHex}
 use Rattle.capture.specs.Frames.{Form, samples, scan, other, firstOf, samplesBy, samplesForm, scanForm, formOf}
 use Rattle.demands.specs.Refusals.{NotOneToMost}
 use Rattle.demands.specs.Texts.{FirstLine, SamplesLine, ScanLine}
 use Rattle.demands.proofs.Conditions.{Tests, passed, failed, neither, leb-tests, ltb-tests, eqb-tests, both-tests, count-tests}
-use Rattle.demands.proofs.Digits.{in-written, line-written}
+use Rattle.demands.proofs.Hex.{in-written, line-written}
 
 -- ---- the first line
 
@@ -52,7 +52,7 @@ module _ (l : Line) where
   by-test a b m t e (passed never) =
       let p = is-so a 0x00 (λ ne. never (inl (inl ne))) in
       let q = is-so b 0x01 (λ ne. never (inl (inr ne))) in
-      gives m ((λ g. never (inr g)), line-written l a (b ∷ m ∷ []) e .0 ∙ ap₂ (λ x y. ended (digitsFor (x ∷ y ∷ m ∷ []))) p q)
+      gives m ((λ g. never (inr g)), line-written l a (b ∷ m ∷ []) e .0 ∙ ap₂ (λ x y. ended (asHex (x ∷ y ∷ m ∷ []))) p q)
   by-test a b m t e (failed g) = wrong (λ y. away (y .0) (y .1 .0) (sym e ∙ first-bytes l (y .0) (y .1)) g)
     where
       away : (n : ℕ) → (NotOneToMost n → ⊥) → a ∷ b ∷ m ∷ [] ≡ 0x00 ∷ 0x01 ∷ n ∷ [] → ((a ≡ 0x00 → ⊥) ⊎ (b ≡ 0x01 → ⊥)) ⊎ NotOneToMost m → ⊥

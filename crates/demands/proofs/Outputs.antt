@@ -10,7 +10,7 @@ use mathlib.Core.List.{List, [], _∷_, _++_, append-assoc, append-nil}
 use Prim.Native.Nat.{ℕ, suc, _+_, _*_, _/_, _%_, _^_, _≤_, _<_}
 use native.Mathlib.Nat.{div-div-eq-div-mul}
 use native.Mathlib.Omega.{arith}
-use borrow.Author.Tests.{ne-eqb, leb-true}
+use borrow.Author.Tests.{leb-true}
 use lib.Dec.{eqb, leb, ltb}
 use lib.ListN.{length, take}
 use Rattle.base.specs.Bits.{cut}
@@ -24,38 +24,35 @@ use Rattle.chip.specs.Segments.{litOf}
 use Rattle.chain.specs.declared.Chain.{Chain}
 use Rattle.chain.specs.Chain.{steppedChain, played}
 use Rattle.chain.specs.Entries.{chipAt, startChain}
+use Rattle.lines.specs.Lines.{Line, ended, cutOff, newline, before, linesOf, bytesIn, bytesOf, allHex, hexOf, hexFor, asHex, lineFor, fourBytes}
+use Rattle.lines.proofs.Lines.{line-begins}
 use Rattle.capture.specs.declared.Report.{Report}
 use Rattle.capture.specs.declared.Report.the-variants.{Words, Screen}
-use Rattle.capture.specs.Lines.{Line, ended, cutOff, newline, before, linesOf, bytesIn, bytesOf, allDigits, digitOf, digitFor, digitsFor, lineFor, fourBytes}
 use Rattle.capture.specs.Frames.{Form, samples, scan, other, firstOf, formOf}
 use Rattle.capture.specs.Reports.{screenLine, riseLine, riseLines, atRise, keyLine, sameBytes, atScan, refusalLine}
 use Rattle.capture.specs.Replay.{risesIn, taken, andThen, linesOut, afterFirst, allOut, outputOf, lineEnd, linesEnd, firstEnd, allEnd, endOf}
 use Rattle.demands.specs.Texts.{lineTells, outputTells}
-use Rattle.demands.proofs.Digits.{in-written}
+use Rattle.demands.proofs.Hex.{in-written}
 use Rattle.demands.proofs.LineForms.{FirstView, gives, wrong, first-view}
 
 -- ---- a written line is one line
 
-no-newline : (v : ℕ) → digitFor v ≡ newline → ⊥
+no-newline : (v : ℕ) → hexFor v ≡ newline → ⊥
 no-newline v = pick-cases (λ d. d ≡ newline → ⊥) (ltb v 10) (λ q e. omega arith) (λ q e. omega arith)
 
-line-begins : (ch : ℕ) (text : List ℕ) → (ch ≡ newline → ⊥) → linesOf (ch ∷ text) ≡ before ch (linesOf text)
-unfolding linesOf
-line-begins ch text n = pick-no (ended [] ∷ linesOf text) (before ch (linesOf text)) (ne-eqb ch newline n)
-
-digits-line : (bytes rest : List ℕ) → linesOf (digitsFor bytes ++ newline ∷ rest) ≡ ended (digitsFor bytes) ∷ linesOf rest
-unfolding linesOf digitsFor
-digits-line [] rest = refl
-digits-line (b ∷ bytes) rest =
-    let high = digitFor (b / 16) in
-    let low = digitFor (b % 16) in
-    let more = digitsFor bytes ++ newline ∷ rest in
+hex-line : (bytes rest : List ℕ) → linesOf (asHex bytes ++ newline ∷ rest) ≡ ended (asHex bytes) ∷ linesOf rest
+unfolding linesOf asHex
+hex-line [] rest = refl
+hex-line (b ∷ bytes) rest =
+    let high = hexFor (b / 16) in
+    let low = hexFor (b % 16) in
+    let more = asHex bytes ++ newline ∷ rest in
     line-begins high (low ∷ more) (no-newline (b / 16))
-    ∙ ap (before high) (line-begins low more (no-newline (b % 16)) ∙ ap (before low) (digits-line bytes rest))
+    ∙ ap (before high) (line-begins low more (no-newline (b % 16)) ∙ ap (before low) (hex-line bytes rest))
 
-written-line : (bytes rest : List ℕ) → linesOf (lineFor bytes ++ rest) ≡ ended (digitsFor bytes) ∷ linesOf rest
+written-line : (bytes rest : List ℕ) → linesOf (lineFor bytes ++ rest) ≡ ended (asHex bytes) ∷ linesOf rest
 unfolding lineFor
-written-line bytes rest = ap linesOf (append-assoc (digitsFor bytes) (newline ∷ []) rest) ∙ digits-line bytes rest
+written-line bytes rest = ap linesOf (append-assoc (asHex bytes) (newline ∷ []) rest) ∙ hex-line bytes rest
 
 -- ---- outputs that tell nothing
 
@@ -75,25 +72,25 @@ over l [] e = e
 over l (m ∷ ls) e = refl
 
 -- a line that doesn't begin with 1F
-plain-kind : (kind : ℕ) (bytes : List ℕ) → eqb (16 * digitOf (digitFor (kind / 16)) + digitOf (digitFor (kind % 16))) 0x1F ≡ false
-    → lineTells (bytesIn (ended (digitsFor (kind ∷ bytes)))) ≡ done tt
-unfolding bytesOf digitsFor
+plain-kind : (kind : ℕ) (bytes : List ℕ) → eqb (16 * hexOf (hexFor (kind / 16)) + hexOf (hexFor (kind % 16))) 0x1F ≡ false
+    → lineTells (bytesIn (ended (asHex (kind ∷ bytes)))) ≡ done tt
+unfolding bytesOf asHex
 plain-kind kind bytes e =
-    pick-cases (λ bs. lineTells bs ≡ done tt) (allDigits (digitsFor (kind ∷ bytes)) && eqb (length (digitsFor (kind ∷ bytes)) % 2) 0)
+    pick-cases (λ bs. lineTells bs ≡ done tt) (allHex (asHex (kind ∷ bytes)) && eqb (length (asHex (kind ∷ bytes)) % 2) 0)
     (λ q. pick-no _ _ e) (λ q. refl)
 
-plain-line : (kind : ℕ) (bytes : List ℕ) → eqb (16 * digitOf (digitFor (kind / 16)) + digitOf (digitFor (kind % 16))) 0x1F ≡ false → Plain (lineFor (kind ∷ bytes))
+plain-line : (kind : ℕ) (bytes : List ℕ) → eqb (16 * hexOf (hexFor (kind / 16)) + hexOf (hexFor (kind % 16))) 0x1F ≡ false → Plain (lineFor (kind ∷ bytes))
 plain-line kind bytes e rest =
-    ap outputTells (written-line (kind ∷ bytes) rest) ∙ over (ended (digitsFor (kind ∷ bytes))) (linesOf rest) (plain-kind kind bytes e)
+    ap outputTells (written-line (kind ∷ bytes) rest) ∙ over (ended (asHex (kind ∷ bytes))) (linesOf rest) (plain-kind kind bytes e)
 
 -- ---- what lines write
 
 plain-screen : (k : ℕ) (c : Chip) → Plain (screenLine k c)
-unfolding digitOf
+unfolding hexOf
 plain-screen k c = plain-line 0x30 (k ∷ litOf c) refl
 
 plain-rise : (what : Report) (k : ℕ) (c : Chip) → Plain (riseLine what k c)
-unfolding digitOf
+unfolding hexOf
 plain-rise Words k c = plain-line 0x10 (k ∷ cut (c .line .register) 8 8 ∷ cut (c .line .register) 0 8 ∷ []) refl
 plain-rise Screen k c = plain-screen k c
 
@@ -112,7 +109,7 @@ plain-rises what n (s ∷ ss) ch =
     (plain-rises what n ss next)
 
 plain-key : (k : ℕ) (r : Recording) → Plain (keyLine k r)
-unfolding digitOf
+unfolding hexOf
 plain-key k nothing = plain-none
 plain-key k (keyCode code) = plain-line 0x11 (k ∷ code ∷ []) refl
 

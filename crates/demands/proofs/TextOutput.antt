@@ -14,8 +14,8 @@ use Rattle.base.proofs.Picks.{pick-yes, pick-no}
 use Rattle.base.proofs.Tests.{by-order}
 use Rattle.chain.specs.declared.Chain.{Chain}
 use Rattle.chain.specs.Entries.{startChain}
+use Rattle.lines.specs.Lines.{Line, linesOf, bytesIn}
 use Rattle.capture.specs.declared.Report.{Report}
-use Rattle.capture.specs.Lines.{Line, linesOf, bytesIn}
 use Rattle.capture.specs.Frames.{Form, firstOf, formOf}
 use Rattle.capture.specs.Reports.{refusalLine}
 use Rattle.capture.specs.Replay.{taken, linesOut, afterFirst, allOut, outputOf}

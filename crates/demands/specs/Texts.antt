@@ -11,8 +11,8 @@ use Rattle.base.specs.Pick.{pick}
 use Rattle.base.specs.Refusals.{Told, done, refused}
 use Rattle.base.specs.Below.{AllBelow}
 use Rattle.chain.specs.Entries.{startChain}
+use Rattle.lines.specs.Lines.{Line, ended, linesOf, bytesIn, asHex}
 use Rattle.capture.specs.declared.Report.{Report}
-use Rattle.capture.specs.Lines.{Line, ended, linesOf, bytesIn, digitsFor}
 use Rattle.capture.specs.Reports.{refusalLine}
 use Rattle.capture.specs.Replay.{outputOf}
 use Rattle.capture.specs.Parts.{firstIn, chipsIn}
@@ -24,16 +24,16 @@ use Rattle.demands.specs.Refusals.{NotOneToMost}
 
 -- the first line: 00 01 N, N 1 to 8
 abbrev pub FirstLine : Line → ℕ → Type 0
-FirstLine l n = (NotOneToMost n → ⊥) × (l ≡ ended (digitsFor (0x00 ∷ 0x01 ∷ n ∷ [])))
+FirstLine l n = (NotOneToMost n → ⊥) × (l ≡ ended (asHex (0x00 ∷ 0x01 ∷ n ∷ [])))
 
 -- 01 and 1 to 32 samples, none above 7
 abbrev pub SamplesLine : Line → Type 0
-SamplesLine l = (ss : List ℕ) × (1 ≤ length ss) × (length ss ≤ 32) × AllBelow 8 ss × (l ≡ ended (digitsFor (0x01 ∷ ss)))
+SamplesLine l = (ss : List ℕ) × (1 ≤ length ss) × (length ss ≤ 32) × AllBelow 8 ss × (l ≡ ended (asHex (0x01 ∷ ss)))
 
 -- 02, a chip below N, 8 scan bytes
 abbrev pub ScanLine : ℕ → Line → Type 0
 ScanLine n l =
-    (k : ℕ) × (bytes : List ℕ) × (k < n) × (length bytes ≡ 8) × AllBelow 256 bytes × (l ≡ ended (digitsFor (0x02 ∷ k ∷ bytes)))
+    (k : ℕ) × (bytes : List ℕ) × (k < n) × (length bytes ≡ 8) × AllBelow 256 bytes × (l ≡ ended (asHex (0x02 ∷ k ∷ bytes)))
 
 -- a line after the first, which gave N
 abbrev pub OtherLine : Line → Line → Type 0

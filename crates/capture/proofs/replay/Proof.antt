@@ -7,7 +7,6 @@ use Rattle.capture.specs.declared.Report.the-variants.{Words}
 use Rattle.capture.specs.Replay.{outputOf}
 use Rattle.capture.proofs.Firsts.{replays-counts}
 use Rattle.capture.proofs.Room.{output-room}
-use borrow.Author.Needs.{needs}
 use Rattle.capture.proofs.replay.Statement.{statement}
 use Rattle.capture.proofs.replay.Tie as tie
 

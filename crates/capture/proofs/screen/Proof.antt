@@ -7,7 +7,6 @@ use Rattle.capture.specs.declared.Report.the-variants.{Screen}
 use Rattle.capture.specs.Replay.{outputOf}
 use Rattle.capture.proofs.Firsts.{replays-counts}
 use Rattle.capture.proofs.Room.{output-room}
-use borrow.Author.Needs.{needs}
 use Rattle.capture.proofs.screen.Statement.{statement}
 use Rattle.capture.proofs.screen.Tie as tie
 

@@ -1,20 +1,14 @@
 -- `capture::reports::key_line` meets its contract.
 -- Assumes nothing.
 use mathlib.Core.Path.{ap}
-use native.Mathlib.Omega.{arith}
-use lib.ListN.{length}
+use mathlib.Core.List.{[], _∷_}
 use Rattle.chip.specs.declared.Recorded.{Recorded}
 use Rattle.chip.specs.Scans.{recordingOf}
 use Rattle.capture.specs.Reports.{keyLine}
-use Rattle.capture.proofs.Reported.{none-put, puts-as}
+use Rattle.capture.proofs.Reported.{none-put, puts-as, line-put}
 use borrow.Author.Needs.{needs}
 use Rattle.capture.proofs.reports.key_line.Statement.{statement}
 use Rattle.capture.proofs.reports.key_line.Tie as tie
-
-line-requires : tie.Need-line-requires
-line-requires c κs =
-    let a = c .before .before .before .before .before .before .args in
-    omega (arith, ap (λ (w : Recorded). length (keyLine (a .k) (recordingOf w))) (c .before .before .before .what .given .1))
 
 returns : tie.Need-returns
 returns c =
@@ -24,7 +18,10 @@ returns c =
 returns-2 : tie.Need-returns-2
 returns-2 c =
     let a = c .before .before .before .before .before .before .before .before .before .args in
-    puts-as (ap (λ (w : Recorded). keyLine (a .k) (recordingOf w)) (c .before .before .before .before .before .before .what .given .1)) (c .before .before .line .ensures)
+    let key = c .before .before .before .before .before .before .what in
+    line-put (0x11 ∷ a .k ∷ key .given .0 .0 ∷ []) (ap (λ (w : Recorded). keyLine (a .k) (recordingOf w)) (key .given .1))
+    (c .before .before .before .before .before .before .before .before .before .pre)
+    (c .before .before .put-line .ensures)
 
 pub key-line-spec : {M : Type 1} → statement M
 key-line-spec =
@@ -33,7 +30,7 @@ key-line-spec =
     (λ c. search needs)
     (λ c. search needs)
     (λ c. search needs)
-    line-requires
+    (λ c κs. search needs)
     returns
     (λ c. search needs)
     returns-2)

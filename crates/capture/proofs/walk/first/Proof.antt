@@ -12,7 +12,7 @@ use Rattle.base.specs.Pick.{pick}
 use Rattle.base.specs.Refusals.{done, refused}
 use Rattle.base.proofs.Picks.{pick-yes, pick-no}
 use Rattle.chain.specs.Chain.{chipCount}
-use Rattle.capture.specs.declared.read.Frame.{Frame}
+use Rattle.lines.specs.declared.Frame.{Frame}
 use Rattle.capture.specs.Parts.{chipsIn}
 use Rattle.capture.proofs.Firsts.{first-cut, other-count, by-three}
 use borrow.Author.Needs.{needs}

@@ -1,9 +1,8 @@
 -- `capture::walk::line` meets its contract: by its first byte and its count a frame is of a form, or of none.
 -- Assumes nothing.
-use mathlib.Core.Path.{_≡_, refl, ap, sym, _∙_}
-use Prim.Native.Nat.{_≤_}
+use mathlib.Core.Path.{_≡_, refl}
 use native.Mathlib.Omega.{arith}
-use lib.ListN.{length, getD, take, drop}
+use lib.ListN.{length, take}
 use lib.Seq.{length-take-le}
 use Rattle.capture.proofs.Forms.{taken-as, room-as, not-taken, form-short, rest-length, held-samples, held-scan, held-kind, held-count}
 use borrow.Author.Needs.{needs}

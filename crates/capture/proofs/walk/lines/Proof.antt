@@ -5,9 +5,9 @@ use Prim.Native.Nat.{_-_}
 use native.Mathlib.Omega.{arith}
 use borrow.Author.Tests.{not-true, not-false}
 use lib.ListN.{length, drop}
-use Rattle.capture.specs.Lines.{linesOf}
+use Rattle.lines.specs.Lines.{linesOf}
 use Rattle.capture.specs.Replay.{linesOut, linesEnd}
-use Rattle.capture.proofs.Walks.{Walks, walks-start, walks-over, cut-room, walks-cut, walks-room, walks-refusal-room, walks-refused, walks-more}
+use Rattle.capture.proofs.Walks.{Walks, walks-start, walks-over, cut-room, walks-cut, walks-count, walks-room, walks-refusal-room, walks-refused, walks-more}
 use borrow.Author.Needs.{needs}
 use Rattle.capture.proofs.walk.lines.Statement.{statement}
 use Rattle.capture.proofs.walk.lines.Tie as tie
@@ -55,7 +55,8 @@ line-requires c κs =
     let l = c .before .before .before .before .before .before .loop in
     let e = c .before .before .before .before .line-end in
     let f = c .before .frame-of in
-    (c .before .before .before .before .before .before .before .before .before .pre .0, (omega (arith, f .ensures .count, f .ensures .room), walks-room (l .inv) (e .result) (e .ensures) (c .before .before .before .if1 .left) (f .result) (f .ensures)))
+    let count = walks-count (l .inv) (e .result) (e .ensures) (c .before .before .before .if1 .left) (f .result) (f .ensures) in
+    (c .before .before .before .before .before .before .before .before .before .pre .0, (count, walks-room (l .inv) (e .result) (e .ensures) (c .before .before .before .if1 .left) (f .result) (f .ensures)))
 
 wrong-line-requires-2 : tie.Need-wrong-line-requires-2 Inv-loop μ-loop
 wrong-line-requires-2 c κs =

@@ -3,8 +3,8 @@
 use mathlib.Core.Path.{_≡_, refl, sym, _∙_}
 use native.Mathlib.Omega.{arith}
 use lib.ListN.{length}
-use Rattle.capture.specs.Parts.{lineLength}
-use Rattle.capture.proofs.Puts.{refusal-length}
+use Rattle.lines.specs.Answers.{lineLength}
+use Rattle.capture.proofs.Reported.{refusal-length}
 use Rattle.capture.proofs.Firsts.{long-out, none-out, replays-so, piece-room, begun-more, begun-few, begun-out}
 use borrow.Author.Needs.{needs}
 use Rattle.capture.proofs.walk.whole.Statement.{statement}

@@ -1,14 +1,14 @@
--- `capture::read::line_end` meets its contract. The invariant: the line ends at one place, seen from here and from the start.
+-- `lines::line_end` meets its contract. The invariant: the line ends at one place, seen from here and from the start.
 -- Assumes nothing.
 use mathlib.Core.Path.{_≡_, refl}
 use Prim.Native.Nat.{_+_, _-_}
 use native.Mathlib.Omega.{arith}
 use lib.ListN.{length, drop}
-use Rattle.capture.specs.Parts.{lineLength}
-use Rattle.capture.proofs.Lines.{end-here, end-more, end-over}
+use Rattle.lines.specs.Answers.{lineLength}
+use Rattle.lines.proofs.Lines.{end-here, end-more, end-over}
 use borrow.Author.Needs.{needs}
-use Rattle.capture.proofs.read.line_end.Statement.{statement}
-use Rattle.capture.proofs.read.line_end.Tie as tie
+use Rattle.lines.proofs.line_end.Statement.{statement}
+use Rattle.lines.proofs.line_end.Tie as tie
 
 abbrev Inv-loop : tie.InvT-loop
 Inv-loop text from at₀ at = at + lineLength (drop at text) ≡ from + lineLength (drop from text)

@@ -1,58 +1,55 @@
--- Lines read: digits, bytes two digits each, and where a line ends, each seen from a place in the middle of a text.
---     digit-none, digit-figure, digit-between, digit-letter, digit-past     what a character counts, by where it stands
---     digits-more, digits-over, digits-at                                   every character is a digit
---     bytes-more, bytes-over, bytes-half, bytes-length                      bytes of digits, and their number
---     pairs-start, pairs-more, pairs-over                                   a loop that fills an array with them
---     held-long, held-other, held-odd, held-whole, holds-none               the bytes that a frame holds
---     end-here, end-more, end-over, line-length-le                          how far a line goes on
---     lines-next, lines-last, lines-append                                  the lines of a text
---     charsIn, chars-in                                                     how many characters lines have
+-- Lines read: hexadecimal digits, bytes two digits each, and where a line ends, each seen from a place in the middle of a text.
+--     hex-none, hex-figure, hex-between, hex-letter, hex-past     what a character counts, by where it stands
+--     hex-more, hex-over, hex-at                                  every character is a digit
+--     bytes-more, bytes-over, bytes-half, bytes-length            bytes of digits, and their number
+--     end-here, end-more, end-over, line-length-le                how far a line goes on
+--     line-begins, lines-next, lines-last, lines-append           the lines of a text
+--     charsIn, chars-in                                           how many characters lines have
 -- Assumes nothing.
-use mathlib.Core.Path.{_≡_, refl, ap, ap₂, sym, _∙_}
-use mathlib.Core.Bool.{true, false, _&&_}
-use mathlib.Core.List.{List, [], _∷_, _++_, append-assoc, append-nil}
-use Prim.Native.Nat.{ℕ, zero, suc, _+_, _*_, _-_, _/_, _%_, _≤_, _<_}
+use mathlib.Core.Path.{_≡_, refl, ap, sym, _∙_}
+use mathlib.Core.Bool.{true, _&&_}
+use mathlib.Core.List.{List, [], _∷_, _++_}
+use Prim.Native.Nat.{ℕ, zero, suc, _+_, _*_, _-_, _/_, _≤_, _<_}
 use native.Mathlib.Nat.{le-of-suc-le-suc}
 use native.Mathlib.Numerals.{add-one}
 use native.Mathlib.Omega.{arith}
 use borrow.Author.Tests.{le-leb, lt-leb, eq-eqb, ne-eqb}
-use lib.Dec.{T, eqb, ltb, ltb→lt}
-use lib.ListN.{length, getD, set, take, drop, length-append, length-drop, length-set, drop-of-length-le}
-use lib.Seq.{drop-cons, take-suc-set}
+use lib.Dec.{T, ltb, ltb→lt}
+use lib.ListN.{length, getD, take, drop, length-append, length-drop, drop-of-length-le}
+use lib.Seq.{drop-cons}
 use Rattle.base.proofs.Picks.{pick-yes, pick-no}
 use Rattle.base.proofs.Tests.{and-left, and-right, by-equality}
-use Rattle.capture.specs.Lines.{newline, Line, ended, cutOff, before, linesOf, digitOf, allDigits, bytesOf, bytesIn}
-use Rattle.capture.specs.declared.read.Frame.{Frame}
-use Rattle.capture.specs.Parts.{lineLength, heldIn, Holds}
+use Rattle.lines.specs.Lines.{newline, Line, ended, cutOff, before, linesOf, hexOf, allHex, bytesOf}
+use Rattle.lines.specs.Answers.{lineLength}
 
 -- the rest begins with the element at its place
 rest-is : (xs : List ℕ) (i : ℕ) → i < length xs → drop i xs ≡ getD xs i 0 ∷ drop (i + 1) xs
 rest-is xs i h = drop-cons xs i 0 h ∙ ap (λ n. getD xs i 0 ∷ drop n xs) (sym (add-one i))
 
--- ---- a digit
+-- ---- a hexadecimal digit
 
-pub digit-none : (ch : ℕ) → ch < 0x30 → digitOf ch ≡ 16
-unfolding digitOf
-digit-none ch h = let l : ch < 0x41 = omega arith in simp (lt-leb 0x30 ch h, lt-leb 0x41 ch l)
+pub hex-none : (ch : ℕ) → ch < 0x30 → hexOf ch ≡ 16
+unfolding hexOf
+hex-none ch h = let l : ch < 0x41 = omega arith in simp (lt-leb 0x30 ch h, lt-leb 0x41 ch l)
 
-pub digit-figure : (ch : ℕ) → 0x30 ≤ ch → ch ≤ 0x39 → digitOf ch ≡ ch - 0x30
-unfolding digitOf
-digit-figure ch h l = simp (le-leb 0x30 ch h, le-leb ch 0x39 l)
+pub hex-figure : (ch : ℕ) → 0x30 ≤ ch → ch ≤ 0x39 → hexOf ch ≡ ch - 0x30
+unfolding hexOf
+hex-figure ch h l = simp (le-leb 0x30 ch h, le-leb ch 0x39 l)
 
-pub digit-between : (ch : ℕ) → 0x39 < ch → ch < 0x41 → digitOf ch ≡ 16
-unfolding digitOf
-digit-between ch h l = let g : 0x30 ≤ ch = omega arith in simp (le-leb 0x30 ch g, lt-leb ch 0x39 h, lt-leb 0x41 ch l)
+pub hex-between : (ch : ℕ) → 0x39 < ch → ch < 0x41 → hexOf ch ≡ 16
+unfolding hexOf
+hex-between ch h l = let g : 0x30 ≤ ch = omega arith in simp (le-leb 0x30 ch g, lt-leb ch 0x39 h, lt-leb 0x41 ch l)
 
-pub digit-letter : (ch : ℕ) → 0x41 ≤ ch → ch ≤ 0x46 → digitOf ch ≡ ch - 0x37
-unfolding digitOf
-digit-letter ch h l =
+pub hex-letter : (ch : ℕ) → 0x41 ≤ ch → ch ≤ 0x46 → hexOf ch ≡ ch - 0x37
+unfolding hexOf
+hex-letter ch h l =
     let g : 0x30 ≤ ch = omega arith in
     let p : 0x39 < ch = omega arith in
     simp (le-leb 0x30 ch g, lt-leb ch 0x39 p, le-leb 0x41 ch h, le-leb ch 0x46 l)
 
-pub digit-past : (ch : ℕ) → 0x46 < ch → digitOf ch ≡ 16
-unfolding digitOf
-digit-past ch h =
+pub hex-past : (ch : ℕ) → 0x46 < ch → hexOf ch ≡ 16
+unfolding hexOf
+hex-past ch h =
     let g : 0x30 ≤ ch = omega arith in
     let p : 0x39 < ch = omega arith in
     let q : 0x41 ≤ ch = omega arith in
@@ -60,25 +57,25 @@ digit-past ch h =
 
 -- ---- every character is a digit
 
-pub digits-more : (cs : List ℕ) (i : ℕ) → i < length cs → allDigits (drop i cs) ≡ (ltb (digitOf (getD cs i 0)) 16 && allDigits (drop (i + 1) cs))
-unfolding allDigits
-digits-more cs i h = ap allDigits (rest-is cs i h)
+pub hex-more : (cs : List ℕ) (i : ℕ) → i < length cs → allHex (drop i cs) ≡ (ltb (hexOf (getD cs i 0)) 16 && allHex (drop (i + 1) cs))
+unfolding allHex
+hex-more cs i h = ap allHex (rest-is cs i h)
 
-pub digits-over : (cs : List ℕ) (i : ℕ) → length cs ≤ i → allDigits (drop i cs) ≡ true
-unfolding allDigits
-digits-over cs i h = ap allDigits (drop-of-length-le cs h)
+pub hex-over : (cs : List ℕ) (i : ℕ) → length cs ≤ i → allHex (drop i cs) ≡ true
+unfolding allHex
+hex-over cs i h = ap allHex (drop-of-length-le cs h)
 
-pub digits-at : (cs : List ℕ) → T (allDigits cs) → (k : ℕ) → k < length cs → digitOf (getD cs k 0) < 16
-unfolding allDigits
-digits-at [] t k h = absurd (omega arith)
-digits-at (ch ∷ cs) t zero h = ltb→lt (digitOf ch) 16 (and-left (ltb (digitOf ch) 16) (allDigits cs) t)
-digits-at (ch ∷ cs) t (suc k) h = digits-at cs (and-right (ltb (digitOf ch) 16) (allDigits cs) t) k (le-of-suc-le-suc h)
+pub hex-at : (cs : List ℕ) → T (allHex cs) → (k : ℕ) → k < length cs → hexOf (getD cs k 0) < 16
+unfolding allHex
+hex-at [] t k h = absurd (omega arith)
+hex-at (ch ∷ cs) t zero h = ltb→lt (hexOf ch) 16 (and-left (ltb (hexOf ch) 16) (allHex cs) t)
+hex-at (ch ∷ cs) t (suc k) h = hex-at cs (and-right (ltb (hexOf ch) 16) (allHex cs) t) k (le-of-suc-le-suc h)
 
 -- ---- bytes of digits
 
 -- the byte whose digits stand at a place
 abbrev pub byteAt : List ℕ → ℕ → ℕ
-byteAt cs k = 16 * digitOf (getD cs k 0) + digitOf (getD cs (k + 1) 0)
+byteAt cs k = 16 * hexOf (getD cs k 0) + hexOf (getD cs (k + 1) 0)
 
 pub bytes-more : (cs : List ℕ) (i : ℕ) → 2 * i + 1 < length cs → bytesOf (drop (2 * i) cs) ≡ byteAt cs (2 * i) ∷ bytesOf (drop (2 * (i + 1)) cs)
 unfolding bytesOf
@@ -107,63 +104,6 @@ bytes-half (a ∷ b ∷ cs) = omega (arith, bytes-half cs)
 
 pub bytes-length : (chars : List ℕ) → 2 * length (bytesOf chars) ≤ length chars
 bytes-length chars = omega (arith, bytes-half chars)
-
--- ---- an array filled with bytes
-
--- the loop's invariant: what was stored, with the bytes left, is the whole
-pub record Pairs (line : List ℕ) (i : ℕ) (bytes : List ℕ) : Type 0 where
-  pub room : length bytes ≡ 33
-  pub whole : take i bytes ++ bytesOf (drop (2 * i) line) ≡ bytesOf line
-
-pub pairs-start : (line bytes : List ℕ) → length bytes ≡ 33 → Pairs line 0 bytes
-pairs-start line bytes l = record { room = l; whole = refl }
-
-pub pairs-more : (line : List ℕ) (i : ℕ) (bytes : List ℕ) (b : ℕ) → Pairs line i bytes → 2 * i + 1 < length line → i < 33
-    → b ≡ byteAt line (2 * i)
-    → Pairs line (i + 1) (set bytes i b)
-pairs-more line i bytes b p h s e =
-    let l = p .room in
-    let k : i < length bytes = omega arith in
-    let rest = bytesOf (drop (2 * (i + 1)) line) in
-    record {
-      room = length-set bytes i b ∙ p .room;
-      whole =
-          ap (λ n. take n (set bytes i b) ++ rest) (add-one i)
-          ∙ ap (λ r. r ++ rest) (take-suc-set bytes i b k)
-          ∙ append-assoc (take i bytes) (b ∷ []) rest
-          ∙ ap (λ x. take i bytes ++ x ∷ rest) e
-          ∙ ap (λ r. take i bytes ++ r) (sym (bytes-more line i h))
-          ∙ p .whole;
-    }
-
-pub pairs-over : (line : List ℕ) (i : ℕ) (bytes : List ℕ) → Pairs line i bytes → length line ≤ 2 * i + 1 → take i bytes ≡ bytesOf line
-pairs-over line i bytes p h =
-    sym (append-nil (take i bytes)) ∙ ap (λ r. take i bytes ++ r) (sym (bytes-over line i h)) ∙ p .whole
-
--- ---- the bytes that a frame holds
-
-pub held-long : (cs : List ℕ) → 66 < length cs → heldIn cs ≡ []
-held-long cs h = pick-no (bytesIn (ended cs)) [] (lt-leb (length cs) 66 h)
-
-pub held-other : (cs : List ℕ) → length cs ≤ 66 → allDigits cs ≡ false → heldIn cs ≡ []
-held-other cs h d =
-    pick-yes (bytesIn (ended cs)) [] (le-leb (length cs) 66 h)
-    ∙ pick-no (bytesOf cs) [] (ap (λ t. t && eqb (length cs % 2) 0) d)
-
-pub held-odd : (cs : List ℕ) → length cs ≤ 66 → allDigits cs ≡ true → (length cs % 2 ≡ 0 → ⊥) → heldIn cs ≡ []
-held-odd cs h d o =
-    pick-yes (bytesIn (ended cs)) [] (le-leb (length cs) 66 h)
-    ∙ pick-no (bytesOf cs) [] (ap₂ _&&_ d (ne-eqb (length cs % 2) 0 o))
-
-pub held-whole : (cs : List ℕ) → length cs ≤ 66 → allDigits cs ≡ true → length cs % 2 ≡ 0 → heldIn cs ≡ bytesOf cs
-held-whole cs h d o =
-    pick-yes (bytesIn (ended cs)) [] (le-leb (length cs) 66 h)
-    ∙ pick-yes (bytesOf cs) [] (ap₂ _&&_ d (eq-eqb (length cs % 2) 0 o))
-
--- a frame with no bytes holds none
-pub holds-none : (f : Frame) {bytes : List ℕ} → f .count ≡ 0 → bytes ≡ [] → Holds f bytes
-holds-none f c e =
-    record { front = ap (λ n. take n (f .bytes)) c ∙ sym e; count = c ∙ ap length (sym e); room = omega (arith, ap length e) }
 
 -- ---- how far a line goes on
 
@@ -199,7 +139,7 @@ line-ends : (ch : ℕ) (text : List ℕ) → ch ≡ newline → linesOf (ch ∷ 
 unfolding linesOf
 line-ends ch text e = pick-yes (ended [] ∷ linesOf text) (before ch (linesOf text)) (eq-eqb ch newline e)
 
-line-begins : (ch : ℕ) (text : List ℕ) → (ch ≡ newline → ⊥) → linesOf (ch ∷ text) ≡ before ch (linesOf text)
+pub line-begins : (ch : ℕ) (text : List ℕ) → (ch ≡ newline → ⊥) → linesOf (ch ∷ text) ≡ before ch (linesOf text)
 unfolding linesOf
 line-begins ch text n = pick-no (ended [] ∷ linesOf text) (before ch (linesOf text)) (ne-eqb ch newline n)
 

@@ -29,42 +29,42 @@ unfoldable pub linesOf : List ℕ → List Line
 linesOf [] = []
 linesOf (ch ∷ text) = pick (eqb ch newline) (ended [] ∷ linesOf text) (before ch (linesOf text))
 
--- ---- digits read
+-- ---- hexadecimal digits read
 
 -- what an upper-case hexadecimal digit counts; 16 where a character is none
-unfoldable pub digitOf : ℕ → ℕ
-digitOf ch = pick (leb 0x30 ch && leb ch 0x39) (ch - 0x30) (pick (leb 0x41 ch && leb ch 0x46) (ch - 0x37) 16)
+unfoldable pub hexOf : ℕ → ℕ
+hexOf ch = pick (leb 0x30 ch && leb ch 0x39) (ch - 0x30) (pick (leb 0x41 ch && leb ch 0x46) (ch - 0x37) 16)
 
--- every character is a digit
-unfoldable pub allDigits : List ℕ → Bool
-allDigits [] = true
-allDigits (ch ∷ chars) = ltb (digitOf ch) 16 && allDigits chars
+-- every character is such a digit
+unfoldable pub allHex : List ℕ → Bool
+allHex [] = true
+allHex (ch ∷ chars) = ltb (hexOf ch) 16 && allHex chars
 
 -- two digits a byte, the high one first
 unfoldable pub bytesOf : List ℕ → List ℕ
 bytesOf [] = []
 bytesOf (high ∷ []) = []
-bytesOf (high ∷ low ∷ chars) = (16 * digitOf high + digitOf low) ∷ bytesOf chars
+bytesOf (high ∷ low ∷ chars) = (16 * hexOf high + hexOf low) ∷ bytesOf chars
 
 -- a line's bytes; none, as no form has it, where it isn't ended or isn't digits two by two
 abbrev pub bytesIn : Line → List ℕ
-bytesIn (ended chars) = pick (allDigits chars && eqb (length chars % 2) 0) (bytesOf chars) []
+bytesIn (ended chars) = pick (allHex chars && eqb (length chars % 2) 0) (bytesOf chars) []
 bytesIn (cutOff chars) = []
 
 -- ---- lines written
 
--- the digit that counts so much
-abbrev pub digitFor : ℕ → ℕ
-digitFor v = pick (ltb v 10) (0x30 + v) (0x37 + v)
+-- the hexadecimal digit that counts so much
+abbrev pub hexFor : ℕ → ℕ
+hexFor v = pick (ltb v 10) (0x30 + v) (0x37 + v)
 
--- bytes as digits, the high one first
-unfoldable pub digitsFor : List ℕ → List ℕ
-digitsFor [] = []
-digitsFor (byte ∷ bytes) = digitFor (byte / 16) ∷ digitFor (byte % 16) ∷ digitsFor bytes
+-- bytes as hexadecimal digits, two a byte, the high one first
+unfoldable pub asHex : List ℕ → List ℕ
+asHex [] = []
+asHex (byte ∷ bytes) = hexFor (byte / 16) ∷ hexFor (byte % 16) ∷ asHex bytes
 
 -- a line of bytes
 unfoldable pub lineFor : List ℕ → List ℕ
-lineFor bytes = digitsFor bytes ++ newline ∷ []
+lineFor bytes = asHex bytes ++ newline ∷ []
 
 -- a number in four bytes, high first
 abbrev pub fourBytes : ℕ → List ℕ

@@ -1,12 +1,12 @@
--- `capture::put::line` meets its contract. The invariant: what is left to write, put where the loop stands, makes the line.
+-- `lines::line` meets its contract. The invariant: what is left to write, put where the loop stands, makes the line.
 -- Assumes nothing.
 use Prim.Native.Nat.{_-_}
 use native.Mathlib.Omega.{arith}
 use lib.ListN.{length, length-set}
-use Rattle.capture.proofs.Puts.{Writes, line-for-length, writes-start, writes-more, writes-over}
+use Rattle.lines.proofs.Puts.{Writes, line-for-length, writes-start, writes-more, writes-over}
 use borrow.Author.Needs.{needs}
-use Rattle.capture.proofs.put.line.Statement.{statement}
-use Rattle.capture.proofs.put.line.Tie as tie
+use Rattle.lines.proofs.line.Statement.{statement}
+use Rattle.lines.proofs.line.Tie as tie
 
 abbrev Inv-loop : tie.InvT-loop
 Inv-loop bytes out₀ at end₀ i₀ out end i = Writes bytes out₀ at out end i
@@ -19,8 +19,8 @@ loop-holds c =
     let a = c .before .before .args in
     writes-start (a .bytes .now) (a .out .now) (a .at)
 
-digit-requires : tie.Need-digit-requires Inv-loop μ-loop
-digit-requires c κs = omega (arith, c .shared-slice-known2 .given (c .before .before .loop .i))
+hex-char-requires : tie.Need-hex-char-requires Inv-loop μ-loop
+hex-char-requires c κs = omega (arith, c .shared-slice-known2 .given (c .before .before .loop .i))
 
 slice-write-out : tie.Need-slice-write-out Inv-loop μ-loop
 slice-write-out c = omega (arith, line-for-length (c .before .before .before .before .before .before .args .bytes .now))
@@ -38,10 +38,10 @@ loop-again : tie.Need-loop-again Inv-loop μ-loop
 loop-again c =
     let l = c .before .before .before .before .loop in
     let a = c .before .before .before .before .before .before .before .args in
-    writes-more (a .bytes .now) (a .out .now) (a .at) (c .before .before .before .before .before .before .before .pre) (l .out) (l .end) (l .i) (c .before .digit .result) (c .digit2 .result) (l .inv)
+    writes-more (a .bytes .now) (a .out .now) (a .at) (c .before .before .before .before .before .before .before .pre) (l .out) (l .end) (l .i) (c .before .hex-char .result) (c .hex-char2 .result) (l .inv)
     (c .before .before .before .loop-test .taken)
-    (c .before .digit .ensures)
-    (c .digit2 .ensures)
+    (c .before .hex-char .ensures)
+    (c .hex-char2 .ensures)
 
 slice-write-out-3 : tie.Need-slice-write-out-3 Inv-loop μ-loop
 slice-write-out-3 c = omega (arith, line-for-length (c .before .before .before .before .args .bytes .now))
@@ -66,7 +66,7 @@ line-spec =
     μ-loop
     loop-holds
     (λ c. search needs)
-    digit-requires
+    hex-char-requires
     slice-write-out
     (λ c κs. search needs)
     add-out

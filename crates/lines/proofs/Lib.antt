@@ -1,0 +1,5 @@
+pub mod Stores
+pub mod Lines
+pub mod Frames
+pub mod Puts
+pub mod Unique
