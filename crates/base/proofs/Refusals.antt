@@ -1,7 +1,8 @@
--- A refusal's number and place say which refusal it is, so a promise that fixes both fixes the refusal.
+-- A refusal's number and place say which refusal it is, so a promise that fixes both fixes the refusal; a number is a byte.
 -- Assumes nothing.
 use mathlib.Core.Path.{_≡_, refl}
-use Prim.Native.Nat.{ℕ}
+use Prim.Native.Nat.{ℕ, _<_}
+use native.Mathlib.Omega.{arith}
 use mathlib.Core.List.{List, [], _∷_}
 use lib.ListN.{getD}
 use Rattle.base.specs.Refusals.{numberOf, placeOf}
@@ -28,6 +29,20 @@ by-number =
 -- the refusal with a number and a place
 pub refusalOf : ℕ → ℕ → Refusal
 refusalOf number place = getD by-number number (λ place. Record) place
+
+pub number-small : (e : Refusal) → numberOf e < 256
+number-small (Sample place) = omega arith
+number-small ScanChip = omega arith
+number-small ChipCount = omega arith
+number-small PartRow = omega arith
+number-small Rows = omega arith
+number-small (Unlisted place) = omega arith
+number-small (Keypad place) = omega arith
+number-small Room = omega arith
+number-small Field = omega arith
+number-small (Line place) = omega arith
+number-small Text = omega arith
+number-small Record = omega arith
 
 pub refusal-back : (e : Refusal) → refusalOf (numberOf e) (placeOf e) ≡ e
 unfolding refusalOf

@@ -8,7 +8,7 @@
 use mathlib.Core.Path.{_≡_, refl, ap, sym, subst}
 use mathlib.Core.Bool.{Bool, true, false, not, _&&_}
 use mathlib.Core.List.{List, [], _∷_, _++_}
-use Prim.Native.Nat.{ℕ, suc, _+_, _*_, _%_, _≤_}
+use Prim.Native.Nat.{ℕ, suc, _+_, _*_, _%_, _≤_, _/_}
 use native.Mathlib.Nat.{mul-le-mul-left, min-le-left}
 use native.Mathlib.Omega.{arith}
 use borrow.Author.Tests.{leb-true}
@@ -23,7 +23,7 @@ use Rattle.chip.specs.Edges.{load, loadRises}
 use Rattle.chip.specs.Scans.{Recording, nothing, keyCode, scanned, recorded}
 use Rattle.chip.specs.Segments.{litOf}
 use Rattle.chain.specs.declared.Chain.{Chain}
-use Rattle.chain.specs.Chain.{chipCount, checkedFrom, steppedChain}
+use Rattle.chain.specs.Chain.{most, chipCount, checkedFrom, steppedChain}
 use Rattle.chain.specs.Entries.{startChain, chipAt}
 use Rattle.chain.proofs.Tested.{count-high}
 use Rattle.lines.specs.Lines.{Line, ended, cutOff, linesOf, allHex, bytesOf, bytesIn}
@@ -43,6 +43,10 @@ abbrev pub lineWidth : Report → ℕ
 lineWidth Words = 9
 lineWidth Screen = 21
 
+-- so many lines' width for each byte of a text: a LOAD rise needs two samples, of two digits each
+abbrev pub spread : ℕ
+spread = most / 4
+
 -- ---- one rise, one scan
 
 pub rise-line-length : (what : Report) (k : ℕ) (c : Chip) → length (riseLine what k c) ≡ lineWidth what
@@ -55,9 +59,9 @@ rise-lines-length what k [] = omega arith
 rise-lines-length what k (c ∷ cs) =
     omega (arith, length-append (riseLine what k c) (riseLines what (suc k) cs), rise-line-length what k c, rise-lines-length what (suc k) cs)
 
-pub at-rise-room : (what : Report) (n : ℕ) (ch : Chain) → n ≤ 8 → length (atRise what n ch) ≤ 8 * lineWidth what
+pub at-rise-room : (what : Report) (n : ℕ) (ch : Chain) → n ≤ most → length (atRise what n ch) ≤ most * lineWidth what
 at-rise-room what n ch h =
-    let few : length (take n (ch .chips)) ≤ 8 = omega (arith, length-take n (ch .chips), min-le-left n (length (ch .chips))) in
+    let few : length (take n (ch .chips)) ≤ most = omega (arith, length-take n (ch .chips), min-le-left n (length (ch .chips))) in
     omega (arith, rise-lines-length what 0 (take n (ch .chips)), mul-le-mul-left (lineWidth what) few)
 
 key-room : (k : ℕ) (r : Recording) → length (keyLine k r) ≤ 9
@@ -86,22 +90,22 @@ spare-used m true now e = let z : _≡_ {A = ℕ} 0 1 = cc in absurd (omega arit
 spare-used m false true e = (refl, refl)
 spare-used m false false e = let z : _≡_ {A = ℕ} 0 1 = cc in absurd (omega arith)
 
-rises-spare : (what : Report) (n : ℕ) (ss : List ℕ) (ch : Chain) → n ≤ 8
-    → 2 * length (risesIn what n ss ch) ≤ 8 * lineWidth what * length ss + spare (8 * lineWidth what) (load (ch .levels))
+rises-spare : (what : Report) (n : ℕ) (ss : List ℕ) (ch : Chain) → n ≤ most
+    → 2 * length (risesIn what n ss ch) ≤ most * lineWidth what * length ss + spare (most * lineWidth what) (load (ch .levels))
 unfolding risesIn
 rises-spare what n [] ch h = omega arith
 rises-spare what n (s ∷ ss) ch h =
     let next = steppedChain n s ch in
     let more = rises-spare what n ss next h in
-    pick-cases (λ piece. 2 * length (piece ++ risesIn what n ss next) ≤ 8 * lineWidth what * length (s ∷ ss) + spare (8 * lineWidth what) (load (ch .levels)))
+    pick-cases (λ piece. 2 * length (piece ++ risesIn what n ss next) ≤ most * lineWidth what * length (s ∷ ss) + spare (most * lineWidth what) (load (ch .levels)))
     (loadRises (ch .levels) s)
-    (λ e. let u = spare-used (8 * lineWidth what) (load (ch .levels)) (load s) e in
+    (λ e. let u = spare-used (most * lineWidth what) (load (ch .levels)) (load s) e in
     omega (arith, length-append (atRise what n next) (risesIn what n ss next), at-rise-room what n next h))
-    (λ _. omega (arith, spare-le (8 * lineWidth what) (load s)))
+    (λ _. omega (arith, spare-le (most * lineWidth what) (load s)))
 
-pub rises-room : (what : Report) (n : ℕ) (ss : List ℕ) (ch : Chain) → n ≤ 8
-    → 2 * length (risesIn what n ss ch) ≤ 8 * lineWidth what * (length ss + 1)
-rises-room what n ss ch h = omega (arith, rises-spare what n ss ch h, spare-le (8 * lineWidth what) (load (ch .levels)))
+pub rises-room : (what : Report) (n : ℕ) (ss : List ℕ) (ch : Chain) → n ≤ most
+    → 2 * length (risesIn what n ss ch) ≤ most * lineWidth what * (length ss + 1)
+rises-room what n ss ch h = omega (arith, rises-spare what n ss ch h, spare-le (most * lineWidth what) (load (ch .levels)))
 
 -- ---- one line
 
@@ -112,10 +116,10 @@ bytes-room (ended cs) =
     (λ _. omega arith)
 bytes-room (cutOff cs) = omega arith
 
-module _ (what : Report) (n : ℕ) (ch : Chain) (h : n ≤ 8) where
+module _ (what : Report) (n : ℕ) (ch : Chain) (h : n ≤ most) where
   -- a form writes at most so much
   abbrev Within : ℕ → Form → Type 0
-  Within m form = length (outOf (taken what n ch form .told)) ≤ 2 * lineWidth what * m
+  Within m form = length (outOf (taken what n ch form .told)) ≤ spread * lineWidth what * m
 
   samples-room : (m : ℕ) (t : Told (Unit {0})) (ss : List ℕ) → 2 * suc (length ss) ≤ m → Within m (samplesBy t ss)
   samples-room m (done u) ss l = omega (arith, rises-room what n ss ch h, mul-le-mul-left (lineWidth what) l)
@@ -136,7 +140,7 @@ module _ (what : Report) (n : ℕ) (ch : Chain) (h : n ≤ 8) where
       (λ _. pick-cases (Within m) (leb 1 (length rest) && leb (length rest) 32) (λ _. samples-room m (checkedFrom 0 rest) rest l) (λ _. omega arith))
       (λ _. pick-cases (Within m) (eqb kind 0x02) (λ _. scan-room m rest (omega arith)) (λ _. omega arith))
 
-  pub line-room : (l : Line) → length (outOf (taken what n ch (formOf n (bytesIn l)) .told)) ≤ 2 * lineWidth what * charsIn (l ∷ [])
+  pub line-room : (l : Line) → length (outOf (taken what n ch (formOf n (bytesIn l)) .told)) ≤ spread * lineWidth what * charsIn (l ∷ [])
   line-room l = form-room (charsIn (l ∷ [])) (bytesIn l) (bytes-room l)
 
 -- ---- lines
@@ -150,26 +154,26 @@ then-room : (t : Told (List ℕ)) (line : ℕ) (rest : List ℕ) (m r : ℕ) →
 then-room (done out) line rest m r h l = omega (arith, length-append out rest)
 then-room (refused number place) line rest m r h l = omega (arith, refusal-length number line)
 
-pub lines-room : (what : Report) (n line : ℕ) (ch : Chain) (ls : List Line) → n ≤ 8 → length (linesOut what n line ch ls) ≤ 2 * lineWidth what * charsIn ls + 13
+pub lines-room : (what : Report) (n line : ℕ) (ch : Chain) (ls : List Line) → n ≤ most → length (linesOut what n line ch ls) ≤ spread * lineWidth what * charsIn ls + 13
 unfolding linesOut
 lines-room what n line ch [] h = omega arith
 lines-room what n line ch (l ∷ ls) h =
     let t = taken what n ch (formOf n (bytesIn l)) in
     let more = lines-room what n (suc line) (t .state) ls h in
     let rest = linesOut what n (suc line) (t .state) ls in
-    let fits = then-room (t .told) line rest (2 * lineWidth what * charsIn (l ∷ [])) (2 * lineWidth what * charsIn ls) (line-room what n ch h l) more in
+    let fits = then-room (t .told) line rest (spread * lineWidth what * charsIn (l ∷ [])) (spread * lineWidth what * charsIn ls) (line-room what n ch h l) more in
     omega (arith, fits, ap (λ k. lineWidth what * k) (chars-more l ls))
 
 -- ---- the whole
 
--- a first line that is accepted gives 1 to 8 chips
-pub first-high : (bytes : List ℕ) (m : ℕ) → firstOf bytes ≡ done m → m ≤ 8
+-- a first line that is accepted gives 1 to the most chips
+pub first-high : (bytes : List ℕ) (m : ℕ) → firstOf bytes ≡ done m → m ≤ most
 unfolding firstOf
 first-high [] m e = let z : _≡_ {A = ℕ} 0 1 = cc in absurd (omega arith)
 first-high (a ∷ []) m e = let z : _≡_ {A = ℕ} 0 1 = cc in absurd (omega arith)
 first-high (a ∷ b ∷ []) m e = let z : _≡_ {A = ℕ} 0 1 = cc in absurd (omega arith)
 first-high (a ∷ b ∷ n ∷ []) m e =
-    pick-cases (λ t. t ≡ done m → m ≤ 8) (eqb a 0x00 && eqb b 0x01 && chipCount n)
+    pick-cases (λ t. t ≡ done m → m ≤ most) (eqb a 0x00 && eqb b 0x01 && chipCount n)
     (λ y q.
     let same : n ≡ m = cc in
     let ok : T (chipCount n) = and-right (eqb a 0x00 && eqb b 0x01) (chipCount n) (subst T (sym y) tt) in
@@ -178,19 +182,19 @@ first-high (a ∷ b ∷ n ∷ []) m e =
     e
 first-high (a ∷ b ∷ n ∷ c ∷ more) m e = let z : _≡_ {A = ℕ} 0 1 = cc in absurd (omega arith)
 
-after-room : (what : Report) (t : Told ℕ) (ls : List Line) → ((n : ℕ) → t ≡ done n → n ≤ 8) → length (afterFirst what t ls) ≤ 2 * lineWidth what * charsIn ls + 13
+after-room : (what : Report) (t : Told ℕ) (ls : List Line) → ((n : ℕ) → t ≡ done n → n ≤ most) → length (afterFirst what t ls) ≤ spread * lineWidth what * charsIn ls + 13
 after-room what (done n) ls f = lines-room what n 2 startChain ls (f n refl)
 after-room what (refused number place) ls f = omega (arith, refusal-length number 1)
 
-all-room : (what : Report) (ls : List Line) → length (allOut what ls) ≤ 2 * lineWidth what * charsIn ls + 13
+all-room : (what : Report) (ls : List Line) → length (allOut what ls) ≤ spread * lineWidth what * charsIn ls + 13
 all-room what [] = omega (arith, refusal-length 10 1)
 all-room what (l ∷ ls) =
     omega (arith, after-room what (firstOf (bytesIn l)) ls (first-high (bytesIn l)), ap (λ k. lineWidth what * k) (chars-more l ls))
 
-pub output-room : (what : Report) (text : List ℕ) → length (outputOf what text) ≤ 2 * lineWidth what * 65536 + 13
+pub output-room : (what : Report) (text : List ℕ) → length (outputOf what text) ≤ spread * lineWidth what * 65536 + 13
 unfolding outputOf
 output-room what text =
-    pick-cases (λ out. length out ≤ 2 * lineWidth what * 65536 + 13) (leb (length text) 65536) {x = allOut what (linesOf text)} {y = refusalLine 11 0}
+    pick-cases (λ out. length out ≤ spread * lineWidth what * 65536 + 13) (leb (length text) 65536) {x = allOut what (linesOf text)} {y = refusalLine 11 0}
     (λ y. let few : length text ≤ 65536 = leb-true (length text) 65536 y in
     omega (arith, all-room what (linesOf text), ap (λ k. lineWidth what * k) (chars-in text), mul-le-mul-left (lineWidth what) few))
     (λ _. omega (arith, refusal-length 11 0))

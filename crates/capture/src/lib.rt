@@ -22,17 +22,25 @@ pub struct Replayed {
     pub answer: Verdict,
 }
 
-// Replays a text: the words obeyed and the keys recorded. A text never writes more than 18 bytes for each of its own, and a
-// refusal's 13.
-pub fn replay(text: &[u8], out: &mut [u8; 1179661]) -> Replayed
+// The longest text.
+pub const LONGEST: usize = 65536;
+
+// How long any output of a text can be: for each of its bytes a quarter of the most chips' lines (a LOAD rise needs two samples, of two
+// digits each), of 9 bytes for words and 21 for the screen; and a refusal's 13.
+pub const WORDS_ROOM: usize = chain::MOST / 4 * 9 * LONGEST + 13;
+
+pub const SCREEN_ROOM: usize = chain::MOST / 4 * 21 * LONGEST + 13;
+
+// Replays a text: the words obeyed and the keys recorded.
+pub fn replay(text: &[u8], out: &mut [u8; WORDS_ROOM]) -> Replayed
     ensures { λ r. ⌜ Replays Report.Words (now (text .entry)) (now (out .entry)) r (now (out .exit)) ⌝ }
     ensures { λ r. ⌜ Counts (r .bytes) (now (out .exit)) ⌝ }
 {
     walk::whole(Report::Words, text, out)
 }
 
-// Replays a text: the segments lit. At most 42 bytes for each of the text's, and a refusal's 13.
-pub fn screen(text: &[u8], out: &mut [u8; 2752525]) -> Replayed
+// Replays a text: the segments lit.
+pub fn screen(text: &[u8], out: &mut [u8; SCREEN_ROOM]) -> Replayed
     ensures { λ r. ⌜ Replays Report.Screen (now (text .entry)) (now (out .entry)) r (now (out .exit)) ⌝ }
     ensures { λ r. ⌜ Counts (r .bytes) (now (out .exit)) ⌝ }
 {

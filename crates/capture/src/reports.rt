@@ -7,6 +7,7 @@ use chip::scans::Taken;
 ghost use mathlib.Core.Path.{_≡_};
 ghost use Prim.Native.Nat.{_+_, _≤_, _<_};
 ghost use lib.ListN.{length};
+ghost use Rattle.chain.specs.Chain.{most};
 ghost use Rattle.chip.specs.Scans.{recordingOf, tookOf};
 ghost use Rattle.lines.specs.Answers as P;
 ghost use Rattle.capture.specs.Reports as R;
@@ -54,7 +55,7 @@ fn rise_line(what: Report, k: u8, chip: Chip, out: &mut [u8], at: usize) -> usiz
 
 // Every chip of a chain after a LOAD rise, from 0 up.
 pub(crate) fn rise(what: Report, n: usize, chain: Chain, out: &mut [u8], at: usize) -> usize
-    requires { ⌜ n ≤ 8 ⌝ }
+    requires { ⌜ n ≤ most ⌝ }
     requires { ⌜ at + length (R.atRise what n chain) ≤ length (now out) ⌝ }
     ensures { λ r. ⌜ P.Puts (R.atRise what n chain) at (now (out .entry)) r (now (out .exit)) ⌝ }
 {

@@ -157,7 +157,7 @@ fn wrong_line(number: usize, out: &mut [u8], at: usize) -> Replayed
     ensures { λ r. ⌜ P.Ends (refusalLine 10 number) (refused 10 number) at (now (out .entry)) r (now (out .exit)) ⌝ }
 {
     Replayed {
-        bytes: put::refusal(10, number, out, at),
+        bytes: put::refusal(Refusal::Line(number as u64), out, at),
         answer: Verdict::Refused(Refusal::Line(number as u64)),
     }
 }
@@ -226,9 +226,9 @@ pub(crate) fn whole(what: Report, text: &[u8], out: &mut [u8]) -> Replayed
     requires { ⌜ length (R.outputOf what (now text)) ≤ length (now out) ⌝ }
     ensures { λ r. ⌜ R.Replays what (now (text .entry)) (now (out .entry)) r (now (out .exit)) ⌝ }
 {
-    if text.len() > 65536 {
+    if text.len() > crate::LONGEST {
         return Replayed {
-            bytes: put::refusal(11, 0, out, 0),
+            bytes: put::refusal(Refusal::Text, out, 0),
             answer: Verdict::Refused(Refusal::Text),
         };
     }

@@ -1,7 +1,7 @@
 // Replays a capture text and writes the segments lit: standard input to standard output. All the work is in the library `capture`.
 fn main() {
     let mut text = [0u8; 65537];
-    let mut out = [0u8; 2752525];
+    let mut out = [0u8; capture::SCREEN_ROOM];
     let got = io::read_full(0, &mut text);
     let r = capture::screen(&text[..got], &mut out);
     let n = r.bytes;

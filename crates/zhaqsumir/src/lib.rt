@@ -168,7 +168,11 @@ pub extern "C" fn zhaqsumir_find(levels: u8, samples: &[u8], answer: &mut [u64; 
 
 // Replays a capture text: number, line, how many bytes stand at the front of `out`.
 #[no_mangle]
-pub extern "C" fn zhaqsumir_replay(text: &[u8], out: &mut [u8; 1179661], answer: &mut [u64; 3])
+pub extern "C" fn zhaqsumir_replay(
+    text: &[u8],
+    out: &mut [u8; capture::WORDS_ROOM],
+    answer: &mut [u64; 3],
+)
     ensures { λ _. ⌜ N.ReplaysNumbers (now (text .entry)) (now (out .entry)) (now (answer .exit)) (now (out .exit)) ⌝ }
 {
     *answer = replayed(capture::replay(text, out));

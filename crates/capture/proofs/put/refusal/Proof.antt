@@ -1,11 +1,14 @@
 -- `capture::put::refusal` meets its contract.
 -- Assumes nothing.
-use mathlib.Core.Path.{refl}
+use mathlib.Core.Path.{ap, ap₂, sym, _∙_}
 use mathlib.Core.List.{_∷_}
-use Prim.Native.Nat.{_+_, _≤_}
+use Prim.Native.Nat.{_+_, _%_, _≤_}
+use native.Mathlib.Nat.{mod-eq-of-lt}
 use native.Mathlib.Omega.{arith}
 use lib.ListN.{length}
-use Rattle.lines.specs.Lines.{fourBytes}
+use Rattle.base.specs.Refusals.{numberOf, placeOf}
+use Rattle.base.proofs.Refusals.{number-small}
+use Rattle.lines.specs.Lines.{lineFor, fourBytes}
 use Rattle.capture.specs.Reports.{refusalLine}
 use Rattle.capture.proofs.Reported.{line-put, refusal-length}
 use borrow.Author.Needs.{needs}
@@ -14,14 +17,21 @@ use Rattle.capture.proofs.put.refusal.Tie as tie
 
 returns : tie.Need-returns
 returns c =
-    let a = c .before .before .before .before .before .before .args in
-    let room : a .at + length (refusalLine (a .number) (a .place)) ≤ length (a .out .now) = omega (arith, refusal-length (a .number) (a .place)) in
-    line-put (0x1F ∷ a .number ∷ fourBytes (a .place)) refl room (c .before .before .put-line .ensures)
+    let a = c .before .before .before .before .before .before .before .before .args in
+    let n = c .before .before .before .before .before .before .number in
+    let p = c .before .before .before .before .before .place in
+    let room : a .at + length (refusalLine (numberOf (a .e)) (placeOf (a .e))) ≤ length (a .out .now) = omega (arith, refusal-length (numberOf (a .e)) (placeOf (a .e))) in
+    let number = ap (λ x. x % 256) (n .ensures) ∙ mod-eq-of-lt (number-small (a .e)) in
+    line-put (0x1F ∷ (n .result % 256) ∷ fourBytes (p .result)) (sym (ap₂ (λ x y. lineFor (0x1F ∷ x ∷ fourBytes y)) number (p .ensures))) room
+    (c .before .before .put-line .ensures)
 
 pub refusal-spec : {M : Type 1} → statement M
 refusal-spec =
     tie.close
     (tie.spec
+    (λ c κs. search needs)
+    (λ c κs. search needs)
+    (λ c. search needs)
     (λ c. search needs)
     (λ c. search needs)
     (λ c. search needs)
