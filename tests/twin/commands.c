@@ -75,8 +75,9 @@ static void read_key(struct chip *c)
     }
 }
 
-/* The register is obeyed, whatever it holds; it stays as it is. Any word first wakes the chip and ends a readout. */
-static void obey(struct chip *c)
+/* The register is obeyed, whatever it holds; it stays as it is. Any word first wakes the chip and ends a readout. (Always inlined:
+ * in a capture with a LOAD rise in two samples the calls would show in the time.) */
+static inline __attribute__((always_inline)) void obey(struct chip *c)
 {
     unsigned word = c->shift;
 

@@ -102,9 +102,9 @@ static int form_of(const unsigned char *frame, unsigned long size, unsigned n)
 static unsigned char *loaded(struct chain *chain, int screen, unsigned char *to)
 {
     unsigned char segments[8];
-    unsigned k;
+    unsigned n = chain->n, k;
 
-    for (k = 0; k < chain->n; k++) {
+    for (k = 0; k < n; k++) {
         obey(&chain->chips[k]);
         if (screen) {
             lit(&chain->chips[k], segments);
