@@ -72,19 +72,26 @@ void start(struct chain *chain, unsigned n)
     }
 }
 
+/* LOAD rises: every chip obeys. (Never inlined: the loop over samples, most of which have no such rise, is faster without it.) */
+static __attribute__((noinline)) void load(struct chip *chips, unsigned n)
+{
+    unsigned k;
+
+    for (k = 0; k < n; k++)
+        obey(&chips[k]);
+}
+
 int play(struct chain *chain, const unsigned char *samples, unsigned long count)
 {
-    unsigned n = chain->n, k;
+    unsigned n = chain->n;
     unsigned char levels = chain->levels;
     unsigned long i;
 
     if (bad_sample(samples, count) < count)
         return 0;
     for (i = 0; i < count; i++) {
-        if (clocked(chain->chips, n, levels, samples[i])) {
-            for (k = 0; k < n; k++)
-                obey(&chain->chips[k]);
-        }
+        if (clocked(chain->chips, n, levels, samples[i]))
+            load(chain->chips, n);
         levels = samples[i];
     }
     chain->levels = levels;
