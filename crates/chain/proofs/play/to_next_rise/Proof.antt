@@ -17,5 +17,8 @@ returns c =
     c .stretch-of .ensures
     ∙ stretch-chips most (a .n) (a .from) (drop (a .from) (a .samples .now)) (a .chain) (omega arith) (omega (arith, c .before .if1 .taken))
 
+returns-2 : tie.Need-returns-2
+returns-2 c = c .stretch-of2 .ensures
+
 pub to-next-rise-spec : {M : Type 1} → statement M
-to-next-rise-spec = tie.close (tie.spec (λ c κs. search needs) returns (λ c κs. search needs) (λ c. search needs))
+to-next-rise-spec = tie.close (tie.spec (λ c κs. search needs) returns (λ c κs. search needs) returns-2)
