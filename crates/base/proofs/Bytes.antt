@@ -13,31 +13,31 @@ use native.Mathlib.Nat.{div-eq-of-lt}
 use native.Mathlib.Omega.{arith}
 use lib.Dec.{T, eqb, leb, ltb, lit<}
 use Rattle.base.specs.Pick.{pick}
-use Rattle.base.specs.Bits.{cut, bit, digit, byteOf}
+use Rattle.base.specs.Bits.{cut, bit, bitValue, byteOf}
 use Rattle.base.specs.Below.{below}
-use Rattle.base.proofs.Cuts.{digit-lt}
+use Rattle.base.proofs.Cuts.{bit-value-lt}
 use Rattle.base.proofs.Tests.{at-below, eq-below, by-order}
 
 pub byte-below : (f : ℕ → Bool) → byteOf f < 256
 byte-below f =
-    let a = digit-lt (f 0) in
-    let b = digit-lt (f 1) in
-    let c = digit-lt (f 2) in
-    let d = digit-lt (f 3) in
-    let e = digit-lt (f 4) in
-    let g = digit-lt (f 5) in
-    let h = digit-lt (f 6) in
-    let i = digit-lt (f 7) in
+    let a = bit-value-lt (f 0) in
+    let b = bit-value-lt (f 1) in
+    let c = bit-value-lt (f 2) in
+    let d = bit-value-lt (f 3) in
+    let e = bit-value-lt (f 4) in
+    let g = bit-value-lt (f 5) in
+    let h = bit-value-lt (f 6) in
+    let i = bit-value-lt (f 7) in
     omega arith
 
 -- bytes whose eight bits agree
 pub byte-same : (f g : ℕ → Bool) → ((s : ℕ) → s < 8 → f s ≡ g s) → byteOf f ≡ byteOf g
 byte-same f g e = λ i.
-    digit (e 0 (lit< tt) i) + 2 * digit (e 1 (lit< tt) i) + 4 * digit (e 2 (lit< tt) i) + 8 * digit (e 3 (lit< tt) i)
-    + 16 * digit (e 4 (lit< tt) i)
-    + 32 * digit (e 5 (lit< tt) i)
-    + 64 * digit (e 6 (lit< tt) i)
-    + 128 * digit (e 7 (lit< tt) i)
+    bitValue (e 0 (lit< tt) i) + 2 * bitValue (e 1 (lit< tt) i) + 4 * bitValue (e 2 (lit< tt) i) + 8 * bitValue (e 3 (lit< tt) i)
+    + 16 * bitValue (e 4 (lit< tt) i)
+    + 32 * bitValue (e 5 (lit< tt) i)
+    + 64 * bitValue (e 6 (lit< tt) i)
+    + 128 * bitValue (e 7 (lit< tt) i)
 
 pub byte-back : (byte : ℕ) → byte < 256 → byteOf (bit byte) ≡ byte
 byte-back = eq-below (λ b. byteOf (bit b)) (λ b. b) 256 tt
@@ -57,7 +57,7 @@ bar-byte =
     (λ dig level. pick (leb 8 (lit-of level dig)) 255 (cut 255 (8 - lit-of level dig) 8)) 8 256 tt
 
 abbrev made : Bool → ℕ → ℕ → ℕ
-made on seg byte = pick (eqb (cut byte seg 1) (digit on)) byte (pick on (byte + 2 ^ seg) (byte - 2 ^ seg))
+made on seg byte = pick (eqb (cut byte seg 1) (bitValue on)) byte (pick on (byte + 2 ^ seg) (byte - 2 ^ seg))
 
 pub bit-made : (on : Bool) (seg byte : ℕ) → seg < 8 → byte < 256 → byteOf (λ s. pick (eqb s seg) on (bit byte s)) ≡ made on seg byte
 bit-made true = eq-below₂ (λ seg byte. byteOf (λ s. pick (eqb s seg) true (bit byte s))) (made true) 8 256 tt

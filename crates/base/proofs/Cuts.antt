@@ -7,7 +7,7 @@ use native.Mathlib.Nat.{lt-of-lt-of-le, lt-of-le-of-lt, div-eq-of-lt, div-le-sel
 use native.Mathlib.Omega.{arith}
 use lib.Pow.{pow-pos, pow-mono, pow-lt, split, shr-shr}
 use lib.Bits.{bitAnd, and-mask}
-use Rattle.base.specs.Bits.{cut, digit}
+use Rattle.base.specs.Bits.{cut, bitValue}
 
 -- past a number's bits there is nothing
 pub cut-past : (w n at width : ℕ) → n < 2 ^ w → w ≤ at → cut n at width ≡ 0
@@ -40,6 +40,6 @@ pub masked : (w m width : ℕ) → width < w → bitAnd m (1 * 2 ^ width % 2 ^ w
 masked w m width h = ap (λ x. bitAnd m (x - 1)) (power-kept w width h) ∙ and-mask m width
 
 -- the number of a bit is 0 or 1
-pub digit-lt : (b : Bool) → digit b < 2
-digit-lt true = omega arith
-digit-lt false = omega arith
+pub bit-value-lt : (b : Bool) → bitValue b < 2
+bit-value-lt true = omega arith
+bit-value-lt false = omega arith

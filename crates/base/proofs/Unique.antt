@@ -12,7 +12,7 @@ use Rattle.base.proofs.Refusals.{refusalOf, refusal-back}
 use Rattle.base.proofs.field
 use Rattle.base.proofs.number
 use Rattle.base.proofs.place
-use Rattle.base.proofs.digit_of
+use Rattle.base.proofs.bit_value
 
 -- a contract `r ≡ x`
 pub same-answer {ℓ} : {A : Type ℓ} {x r s : A} → r ≡ x → s ≡ x → r ≡ s
@@ -41,8 +41,8 @@ same-verdict {v} {w} e = sym (verdict-back v) ∙ ap verdict e ∙ verdict-back 
 pub field-unique : AllowsOne field.Kinds.ps field.Kinds.r field.Reads.Learnt
 field-unique κs a x y last last′ p q = (same-answer p q, refl)
 
-pub digit-of-unique : AllowsOne digit_of.Kinds.ps digit_of.Kinds.r digit_of.Reads.Learnt
-digit-of-unique κs a x y last last′ p q = (same-answer p q, refl)
+pub bit-value-unique : AllowsOne bit_value.Kinds.ps bit_value.Kinds.r bit_value.Reads.Learnt
+bit-value-unique κs a x y last last′ p q = (same-answer p q, refl)
 
 pub number-unique : AllowsOne number.Kinds.ps number.Kinds.r number.Reads.Learnt
 number-unique κs a x y last last′ p q = (same-answer p q, refl)

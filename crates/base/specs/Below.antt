@@ -3,7 +3,7 @@
 use Prim.Native.Nat.{ℕ, zero, suc, _+_, _<_}
 use mathlib.Core.List.{List, [], _∷_}
 use mathlib.Core.Bool.{Bool, true, _&&_}
-use Rattle.base.specs.Bits.{digit}
+use Rattle.base.specs.Bits.{bitValue}
 
 -- the test passes at each number below n
 abbrev pub below : (ℕ → Bool) → ℕ → Bool
@@ -13,7 +13,7 @@ below f (suc n) = f n && below f n
 -- how many numbers below n pass the test
 abbrev pub count : (ℕ → Bool) → ℕ → ℕ
 count f zero = 0
-count f (suc n) = digit (f n) + count f n
+count f (suc n) = bitValue (f n) + count f n
 
 -- a claim of each number below n
 abbrev pub EachBelow {ℓ} : (ℕ → Type ℓ) → ℕ → Type ℓ

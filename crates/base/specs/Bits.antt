@@ -13,11 +13,11 @@ abbrev pub bit : ℕ → ℕ → Bool
 bit n at = eqb (cut n at 1) 1
 
 -- the number that a bit is
-abbrev pub digit : Bool → ℕ
-digit true = 1
-digit false = 0
+abbrev pub bitValue : Bool → ℕ
+bitValue true = 1
+bitValue false = 0
 
 -- the byte whose bit s is as f says, for s from 0 to 7
 abbrev pub byteOf : (ℕ → Bool) → ℕ
 byteOf f =
-    digit (f 0) + 2 * digit (f 1) + 4 * digit (f 2) + 8 * digit (f 3) + 16 * digit (f 4) + 32 * digit (f 5) + 64 * digit (f 6) + 128 * digit (f 7)
+    bitValue (f 0) + 2 * bitValue (f 1) + 4 * bitValue (f 2) + 8 * bitValue (f 3) + 16 * bitValue (f 4) + 32 * bitValue (f 5) + 64 * bitValue (f 6) + 128 * bitValue (f 7)

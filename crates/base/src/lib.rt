@@ -1,7 +1,7 @@
 // The ground floor: the refusals that document 01 numbers, and the one leaf that cuts fields of numbers by shifts and
 // masks. The two functions are inner ones, for the other crates; users have no entry here. Nothing here has a `requires`.
 ghost use mathlib.Core.Path.{_≡_};
-ghost use Rattle.base.specs.Bits.{cut, digit};
+ghost use Rattle.base.specs.Bits.{cut, bitValue};
 ghost use Rattle.base.specs.Refusals.{numberOf, placeOf};
 
 // Why an input was refused, with the place that document 01 names, where it names one.
@@ -92,8 +92,8 @@ pub fn field(n: u16, at: u16, width: u16) -> u16
 }
 
 // The number of a bit: 1 or 0.
-pub fn digit_of(b: bool) -> u16
-    ensures { λ r. ⌜ r ≡ digit b ⌝ }
+pub fn bit_value(b: bool) -> u16
+    ensures { λ r. ⌜ r ≡ bitValue b ⌝ }
 {
     if b { 1 } else { 0 }
 }

@@ -23,8 +23,8 @@ use Rattle.base.proofs.Lent.{laid-counts}
 use Rattle.base.proofs.Picks.{pick-yes, pick-no}
 use Rattle.base.proofs.Tests.{by-order}
 use Rattle.chain.specs.Chain.{most, chipCount}
-use Rattle.chain.specs.declared.Handed.{Handed}
-use Rattle.chain.specs.Entries.{handed, startChain, startedOf}
+use Rattle.chain.specs.declared.HandedChain.{HandedChain}
+use Rattle.chain.specs.Entries.{handedChain, startChain, startedOf}
 use Rattle.chain.proofs.Passed.{start-done}
 use Rattle.chain.proofs.Tested.{count-low, count-high}
 use Rattle.capture.specs.declared.Report.{Report}
@@ -209,8 +209,8 @@ replays-counts {what} {text} {out} {r} {out′} fits p =
 
 -- ---- a chain started, and the lines after the first
 
-module _ (what : Report) (text : List ℕ) (end n : ℕ) (h : Handed) (fits : length text ≤ 65536) (here : end ≡ lineLength text)
-    (chips : n ≡ chipsIn (firstIn (linesOf text))) (some : n ≡ 0 → ⊥) (start : handed h ≡ startedOf n) where
+module _ (what : Report) (text : List ℕ) (end n : ℕ) (h : HandedChain) (fits : length text ≤ 65536) (here : end ≡ lineLength text)
+    (chips : n ≡ chipsIn (firstIn (linesOf text))) (some : n ≡ 0 → ⊥) (start : handedChain h ≡ startedOf n) where
   ne : chipsIn (firstIn (linesOf text)) ≡ 0 → ⊥
   ne z = some (chips ∙ z)
 

@@ -22,7 +22,7 @@ use Rattle.base.specs.Pick.{pick}
 use Rattle.base.specs.Refusals.{done, refused}
 use Rattle.base.proofs.Lent.{placed-none}
 use Rattle.base.proofs.Picks.{pick-yes, pick-no}
-use Rattle.chip.specs.Scans.{tookOf, scanned, taken as tookFrom}
+use Rattle.chip.specs.Scans.{leavesOf, scanned, scanLeaves}
 use Rattle.chain.specs.declared.Chain.{Chain}
 use Rattle.chain.specs.declared.one.ChipScan.{ChipScan}
 use Rattle.chain.specs.Chain.{checkedFrom}
@@ -84,16 +84,16 @@ scan-far n k bytes h = pick-no _ _ (ap (λ b. b && eqb (length bytes) 8) (le-ltb
 module _ (what : Report) (n : ℕ) (ch : Chain) (k : ℕ) (bytes : List ℕ) (below : k < n) (eight : length bytes ≡ 8) (s : ChipScan)
     (next : s .chain ≡ withChip k (scanned bytes (chipAt k ch)) ch)
     (was : s .before ≡ chipAt k ch)
-    (took : tookOf (s .taken) ≡ tookFrom bytes (chipAt k ch)) where
-  writes : scanLine what k (s .before) (tookOf (s .taken)) ≡ atScan what k bytes (chipAt k ch)
+    (took : leavesOf (s .taken) ≡ scanLeaves bytes (chipAt k ch)) where
+  writes : scanLine what k (s .before) (leavesOf (s .taken)) ≡ atScan what k bytes (chipAt k ch)
   writes = ap₂ (scanLine what k) was took
 
   pub scan-room : (at room : ℕ) → at + length (outOf (taken what n ch (scanForm n (k ∷ bytes)) .told)) ≤ room
-      → at + length (scanLine what k (s .before) (tookOf (s .taken))) ≤ room
+      → at + length (scanLine what k (s .before) (leavesOf (s .taken))) ≤ room
   scan-room at room fits =
       subst (λ piece. at + length piece ≤ room) (sym writes) (room-as what n ch at room (scan-good n k bytes below eight) fits)
 
-  pub scan-taken : {at r : ℕ} {out out′ : List ℕ} → Puts (scanLine what k (s .before) (tookOf (s .taken))) at out r out′
+  pub scan-taken : {at r : ℕ} {out out′ : List ℕ} → Puts (scanLine what k (s .before) (leavesOf (s .taken))) at out r out′
       → Takes (taken what n ch (scanForm n (k ∷ bytes))) at out (record { chain = s .chain; taken = true; at = r }) out′
   scan-taken put =
       taken-as what n ch (scan-good n k bytes below eight) (record { chain = next; taken = refl; puts = puts-as (sym writes) put })

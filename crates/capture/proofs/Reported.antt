@@ -109,7 +109,7 @@ same-over a b i h l = ap₂ sameBytes (drop-of-length-le a h) (drop-of-length-le
 
 -- ---- a scan
 
-module _ (k : ℕ) (c : Chip) (t : S.Took) where
+module _ (k : ℕ) (c : Chip) (t : S.ScanLeaves) where
   pub scan-words : {what : Report} → what ≡ Words → scanLine what k c t ≡ keyLine k (t .recorded)
   scan-words w = ap (λ x. scanLine x k c t) w
 

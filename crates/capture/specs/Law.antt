@@ -22,9 +22,9 @@ AllTaken what n ch [] = Unit {0}
 AllTaken what n ch (l ∷ ls) = IsDone (lineTaken what n ch l .told) × AllTaken what n (lineTaken what n ch l .state) ls
 
 -- the chain after them
-unfoldable pub after : Report → ℕ → Chain → List Line → Chain
-after what n ch [] = ch
-after what n ch (l ∷ ls) = after what n (lineTaken what n ch l .state) ls
+unfoldable pub chainAfter : Report → ℕ → Chain → List Line → Chain
+chainAfter what n ch [] = ch
+chainAfter what n ch (l ∷ ls) = chainAfter what n (lineTaken what n ch l .state) ls
 
 -- what each wrote, one after another
 unfoldable pub wrote : Report → ℕ → Chain → List Line → List ℕ

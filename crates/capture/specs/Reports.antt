@@ -9,7 +9,7 @@ use lib.ListN.{take}
 use Rattle.base.specs.Bits.{cut}
 use Rattle.base.specs.Pick.{pick}
 use Rattle.chip.specs.declared.Chip.{Chip}
-use Rattle.chip.specs.Scans.{Recording, nothing, keyCode, Took, taken}
+use Rattle.chip.specs.Scans.{Recording, nothing, keyCode, ScanLeaves, scanLeaves}
 use Rattle.chip.specs.Segments.{litOf}
 use Rattle.chain.specs.declared.Chain.{Chain}
 use Rattle.lines.specs.Lines.{lineFor, fourBytes}
@@ -47,13 +47,13 @@ sameBytes (x ∷ xs) [] = false
 sameBytes (x ∷ xs) (y ∷ ys) = eqb x y && sameBytes xs ys
 
 -- of a chip before a scan and what the scan took: the key recorded; or its segments lit, where they differ from those before
-abbrev pub scanLine : Report → ℕ → Chip → Took → List ℕ
+abbrev pub scanLine : Report → ℕ → Chip → ScanLeaves → List ℕ
 scanLine Words k c t = keyLine k (t .recorded)
 scanLine Screen k c t = pick (sameBytes (litOf c) (litOf (t .chip))) [] (screenLine k (t .chip))
 
 -- of a scan of a chip
 abbrev pub atScan : Report → ℕ → List ℕ → Chip → List ℕ
-atScan what k bytes c = scanLine what k c (taken bytes c)
+atScan what k bytes c = scanLine what k c (scanLeaves bytes c)
 
 -- a refusal: 1F, number, the line's number in four bytes
 abbrev pub refusalLine : ℕ → ℕ → List ℕ

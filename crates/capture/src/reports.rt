@@ -3,12 +3,12 @@ use crate::Report;
 use chain::Chain;
 use chip::Chip;
 use chip::Recorded;
-use chip::scans::Taken;
+use chip::scans::AfterScan;
 ghost use mathlib.Core.Path.{_≡_};
 ghost use Prim.Native.Nat.{_+_, _≤_, _<_};
 ghost use lib.ListN.{length};
 ghost use Rattle.chain.specs.Chain.{most};
-ghost use Rattle.chip.specs.Scans.{recordingOf, tookOf};
+ghost use Rattle.chip.specs.Scans.{recordingOf, leavesOf};
 ghost use Rattle.lines.specs.Answers as P;
 ghost use Rattle.capture.specs.Reports as R;
 
@@ -103,12 +103,12 @@ pub(crate) fn scan(
     what: Report,
     k: u8,
     before: Chip,
-    taken: Taken,
+    taken: AfterScan,
     out: &mut [u8],
     at: usize,
 ) -> usize
-    requires { ⌜ at + length (R.scanLine what k before (tookOf taken)) ≤ length (now out) ⌝ }
-    ensures { λ r. ⌜ P.Puts (R.scanLine what k before (tookOf taken)) at (now (out .entry)) r (now (out .exit)) ⌝ }
+    requires { ⌜ at + length (R.scanLine what k before (leavesOf taken)) ≤ length (now out) ⌝ }
+    ensures { λ r. ⌜ P.Puts (R.scanLine what k before (leavesOf taken)) at (now (out .entry)) r (now (out .exit)) ⌝ }
 {
     let after = taken.chip;
     let key = taken.recorded;

@@ -59,7 +59,7 @@ fn sample_line(what: Report, n: usize, chain: Chain, ss: &[u8], out: &mut [u8], 
     requires { ⌜ at + length (P.outOf (R.taken what n chain (F.samplesForm (now ss)) .told)) ≤ length (now out) ⌝ }
     ensures { λ r. ⌜ P.Takes (R.taken what n chain (F.samplesForm (now (ss .entry)))) at (now (out .entry)) r (now (out .exit)) ⌝ }
 {
-    let test = chain::tests::checked(ss);
+    let test = chain::checks::checked(ss);
     match test {
         Verdict::Refused(_) => Took {
             chain,
@@ -215,7 +215,7 @@ fn first(text: &[u8], end: usize) -> usize
         return 0;
     }
     let n = bytes[2] as usize;
-    if !chain::tests::is_count(n) {
+    if !chain::checks::is_count(n) {
         return 0;
     }
     n

@@ -13,7 +13,7 @@ use native.Mathlib.Nat.{not-suc-le-zero, le-of-suc-le-suc}
 use lib.Dec.{T, eqb}
 use lib.ListN.{length}
 use Rattle.base.specs.Pick.{pick}
-use Rattle.base.specs.Bits.{cut, bit, digit}
+use Rattle.base.specs.Bits.{cut, bit, bitValue}
 use Rattle.base.proofs.Picks.{pick-yes, pick-no, pick-ap, pick-cases}
 use Rattle.base.proofs.Cuts.{cut-lt, cut-zero}
 use Rattle.base.proofs.Tests.{eq-below, and-left, and-right}
@@ -120,19 +120,19 @@ registers-held (suc n) [] = refl
 registers-held (suc n) (c ∷ cs) = ap (λ rs. c .line .register ∷ rs) (registers-held n cs)
 
 -- the lowest bit as a number
-digit-bit : (r : ℕ) → digit (bit r 0) ≡ r % 2
-digit-bit r = eq-below (λ x. digit (eqb x 1)) (λ x. x) 2 tt (cut r 0 1) (cut-lt r 0 1) ∙ cut-zero r 1
+bit-value-back : (r : ℕ) → bitValue (bit r 0) ≡ r % 2
+bit-value-back r = eq-below (λ x. bitValue (eqb x 1)) (λ x. x) 2 tt (cut r 0 1) (cut-lt r 0 1) ∙ cut-zero r 1
 
 pub fall-rise : (was mid now : ℕ) (d e : Bool) (hs : List Held)
     → dclkFalls was mid ≡ true → dclkFalls mid now ≡ false → dclkRises mid now ≡ true
-    → registersIn (heldRow mid now e (heldRow was mid d hs)) ≡ push (digit e) (registersIn hs)
+    → registersIn (heldRow mid now e (heldRow was mid d hs)) ≡ push (bitValue e) (registersIn hs)
 unfolding heldRow push
 fall-rise was mid now d e [] f s r = refl
 fall-rise was mid now d e (h ∷ hs) f s r =
     ap₂ (λ x xs. x ∷ xs)
-    (ap (λ (x : Held). x .register) (pick-no _ _ s ∙ pick-yes _ _ r) ∙ ap (λ (x : Held). x .register / 2 + 2048 * digit e) fell)
+    (ap (λ (x : Held). x .register) (pick-no _ _ s ∙ pick-yes _ _ r) ∙ ap (λ (x : Held). x .register / 2 + 2048 * bitValue e) fell)
     (fall-rise was mid now (h .latch) (low-held .latch) hs f s r
-    ∙ ap (λ x. push x (registersIn hs)) (ap (λ (x : Held). digit (x .latch)) fell ∙ digit-bit (h .register)))
+    ∙ ap (λ x. push x (registersIn hs)) (ap (λ (x : Held). bitValue (x .latch)) fell ∙ bit-value-back (h .register)))
   where
     low-held : Held
     low-held = pick (dclkFalls was mid) (fallen h) (pick (dclkRises was mid) (risen d h) h)

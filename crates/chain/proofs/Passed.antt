@@ -22,7 +22,7 @@ use Rattle.chip.specs.Scans.{scanned, recorded}
 use Rattle.chip.proofs.Valid.{reset-valid, scanned-valid}
 use Rattle.chain.specs.declared.Chain.{Chain}
 use Rattle.chain.specs.Chain.{most, chipCount, allValid, validChain, testedOf, checkedFrom, played}
-use Rattle.chain.specs.Entries.{after, chipAt, withChip, startChain, startedOf, playedOf, scannedOf}
+use Rattle.chain.specs.Entries.{onceTested, chipAt, withChip, startChain, startedOf, playedOf, scannedOf}
 
 -- ---- the tests
 
@@ -76,11 +76,11 @@ scan-valid n j bytes ch v =
 module _ (n : ℕ) (ch : Chain) (passed : testedOf n ch ≡ done tt) where
   pub play-done : (ss : List ℕ) → checkedFrom 0 ss ≡ done tt → playedOf n ch ss ≡ record { state = played n ss ch; told = done tt }
   unfolding playedOf
-  play-done ss fine = ap₂ (λ t u. after t ch (after u ch (record { state = played n ss ch; told = done tt }))) passed fine
+  play-done ss fine = ap₂ (λ t u. onceTested t ch (onceTested u ch (record { state = played n ss ch; told = done tt }))) passed fine
 
   pub scan-done : (j : ℕ) (bytes : List ℕ) → j < n
       → scannedOf n ch j bytes ≡ record { state = withChip j (scanned bytes (chipAt j ch)) ch; told = done (recorded bytes (chipAt j ch)) }
   unfolding scannedOf
   scan-done j bytes h =
-      ap₂ (λ t b. after t ch (pick b (record { state = withChip j (scanned bytes (chipAt j ch)) ch; told = done (recorded bytes (chipAt j ch)) }) (handsBack ch 2 0)))
+      ap₂ (λ t b. onceTested t ch (pick b (record { state = withChip j (scanned bytes (chipAt j ch)) ch; told = done (recorded bytes (chipAt j ch)) }) (handsBack ch 2 0)))
       passed (lt-ltb j n h)

@@ -14,16 +14,16 @@ use Rattle.base.specs.declared.Verdict.the-variants.{Done, Refused}
 use Rattle.base.proofs.Tests.{and-left, and-right}
 use Rattle.chain.specs.declared.Chain.{Chain}
 use Rattle.chain.specs.Chain.{most, chipCount, validChain, testedOf}
-use Rattle.chain.specs.Entries.{after}
+use Rattle.chain.specs.Entries.{onceTested}
 
-pub by-done : {S A : Type 0} {v : Verdict} {t : Told (Unit {0})} (given : S) (next : Outcome S A) → verdictTells v ≡ t → v ≡ Done → after t given next ≡ next
-by-done given next e q = ap (λ x. after x given next) (sym e ∙ ap verdictTells q)
+pub by-done : {S A : Type 0} {v : Verdict} {t : Told (Unit {0})} (given : S) (next : Outcome S A) → verdictTells v ≡ t → v ≡ Done → onceTested t given next ≡ next
+by-done given next e q = ap (λ x. onceTested x given next) (sym e ∙ ap verdictTells q)
 
 pub by-refusal : {S A : Type 0} {v : Verdict} {t : Told (Unit {0})} {r : Refusal} (given : S) (next : Outcome S A)
     → verdictTells v ≡ t
     → v ≡ Refused r
-    → after t given next ≡ record { state = given; told = refusedBy r }
-by-refusal given next e q = ap (λ x. after x given next) (sym e ∙ ap verdictTells q)
+    → onceTested t given next ≡ record { state = given; told = refusedBy r }
+by-refusal given next e q = ap (λ x. onceTested x given next) (sym e ∙ ap verdictTells q)
 
 -- ---- the tests on a chain
 

@@ -7,19 +7,19 @@ use Rattle.base.specs.Unique.{AllowsOne}
 use Rattle.base.proofs.Unique.{same-answer, same-verdict}
 use Rattle.chip.proofs.Unique.{same-scan-answer, same-taken, same-lit}
 use Rattle.chain.specs.declared.Chain.{Chain}
-use Rattle.chain.specs.declared.Handed.{Handed}
+use Rattle.chain.specs.declared.HandedChain.{HandedChain}
 use Rattle.chain.specs.declared.finder.Rise.{Rise}
 use Rattle.chain.specs.declared.finder.Rise.the-variants as Rises
 use Rattle.chain.specs.Finder.{NextRise, riseAt, noRise, nextRiseOf}
-use Rattle.chain.specs.Entries.{handed}
+use Rattle.chain.specs.Entries.{handedChain}
 use Rattle.chain.proofs.start
 use Rattle.chain.proofs.host_sees
 use Rattle.chain.proofs.play
 use Rattle.chain.proofs.one
 use Rattle.chain.proofs.finder
-use Rattle.chain.proofs.tests
+use Rattle.chain.proofs.checks
 
-handed-same : {x : Outcome Chain (Unit {0})} (r s : Handed) → handed r ≡ x → handed s ≡ x → r ≡ s
+handed-same : {x : Outcome Chain (Unit {0})} (r s : HandedChain) → handedChain r ≡ x → handedChain s ≡ x → r ≡ s
 handed-same r s p q =
     let e = same-answer p q in
     λ i. record { chain = ap (λ o. o .state) e i; answer = same-verdict {v = r .answer} {w = s .answer} (ap (λ o. o .told) e) i }
@@ -80,11 +80,11 @@ scan-chip-unique κs a x y last last′ p q =
 pub to-next-rise-unique : AllowsOne play.to_next_rise.Kinds.ps play.to_next_rise.Kinds.r play.to_next_rise.Reads.Learnt
 to-next-rise-unique κs a x y last last′ p q = (same-answer p q, refl)
 
-pub is-count-unique : AllowsOne tests.is_count.Kinds.ps tests.is_count.Kinds.r tests.is_count.Reads.Learnt
+pub is-count-unique : AllowsOne checks.is_count.Kinds.ps checks.is_count.Kinds.r checks.is_count.Reads.Learnt
 is-count-unique κs a x y last last′ p q = (same-answer p q, refl)
 
-pub checked-unique : AllowsOne tests.checked.Kinds.ps tests.checked.Kinds.r tests.checked.Reads.Learnt
+pub checked-unique : AllowsOne checks.checked.Kinds.ps checks.checked.Kinds.r checks.checked.Reads.Learnt
 checked-unique κs a x y last last′ p q = (same-verdict {v = x} {w = y} (same-answer p q), refl)
 
-pub tested-unique : AllowsOne tests.tested.Kinds.ps tests.tested.Kinds.r tests.tested.Reads.Learnt
+pub tested-unique : AllowsOne checks.tested.Kinds.ps checks.tested.Kinds.r checks.tested.Reads.Learnt
 tested-unique κs a x y last last′ p q = (same-verdict {v = x} {w = y} (same-answer p q), refl)

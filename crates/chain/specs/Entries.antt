@@ -18,19 +18,19 @@ use Rattle.chip.specs.Scans.{Recording, scanned, recorded}
 use Rattle.chip.specs.Segments.{litOf}
 use Rattle.chip.specs.Entries as One
 use Rattle.chain.specs.declared.Chain.{Chain}
-use Rattle.chain.specs.declared.Handed.{Handed}
+use Rattle.chain.specs.declared.HandedChain.{HandedChain}
 use Rattle.chain.specs.declared.Seen.{Seen}
 use Rattle.chain.specs.declared.one.Scanned.{Scanned}
 use Rattle.chain.specs.Chain.{most, chipCount, checkedFrom, testedOf, played}
 
 -- a chain handed back
-abbrev pub handed : Handed → Outcome Chain (Unit {0})
-handed r = record { state = r .chain; told = verdictTells (r .answer) }
+abbrev pub handedChain : HandedChain → Outcome Chain (Unit {0})
+handedChain r = record { state = r .chain; told = verdictTells (r .answer) }
 
 -- what a test that was passed leads to; one that was not hands back what is given for that: the state, or zeros
-abbrev pub after : {S A : Type 0} → Told (Unit {0}) → S → Outcome S A → Outcome S A
-after (done u) given next = next
-after (refused number place) given next = handsBack given number place
+abbrev pub onceTested : {S A : Type 0} → Told (Unit {0}) → S → Outcome S A → Outcome S A
+onceTested (done u) given next = next
+onceTested (refused number place) given next = handsBack given number place
 
 -- ---- start
 
@@ -60,7 +60,7 @@ startedOf n = pick (chipCount n) (record { state = startChain; told = done tt })
 -- a block of samples: refusals 3, 12, 1
 unfoldable pub playedOf : ℕ → Chain → List ℕ → Outcome Chain (Unit {0})
 playedOf n ch ss =
-    after (testedOf n ch) ch (after (checkedFrom 0 ss) ch (record { state = played n ss ch; told = done tt }))
+    onceTested (testedOf n ch) ch (onceTested (checkedFrom 0 ss) ch (record { state = played n ss ch; told = done tt }))
 
 -- ---- one chip
 
@@ -76,7 +76,7 @@ handedScan r = record { state = r .chain; told = One.scanTells (r .answer) }
 -- one scan: refusals 3, 12, 2
 unfoldable pub scannedOf : ℕ → Chain → ℕ → List ℕ → Outcome Chain Recording
 scannedOf n ch k bytes =
-    after (testedOf n ch) ch
+    onceTested (testedOf n ch) ch
     (pick (ltb k n)
     (record { state = withChip k (scanned bytes (chipAt k ch)) ch; told = done (recorded bytes (chipAt k ch)) })
     (handsBack ch 2 0))
@@ -84,7 +84,7 @@ scannedOf n ch k bytes =
 -- a command applied directly: refusals 3, 12, 9, 2
 unfoldable pub appliedOf : ℕ → Chain → ℕ → Command → Outcome Chain (Unit {0})
 appliedOf n ch k command =
-    after (testedOf n ch) ch
+    onceTested (testedOf n ch) ch
     (pick (legal command)
     (pick (ltb k n) (record { state = withChip k (applied command (chipAt k ch)) ch; told = done tt }) (handsBack ch 2 0))
     (handsBack ch 9 0))
@@ -95,7 +95,7 @@ handedLit r = One.handedLit r
 -- the segments lit: refusals 3, 12, 2
 unfoldable pub segmentsOf : ℕ → Chain → ℕ → Outcome (List ℕ) (Unit {0})
 segmentsOf n ch k =
-    after (testedOf n ch) blank
+    onceTested (testedOf n ch) blank
     (pick (ltb k n) (record { state = litOf (chipAt k ch); told = done tt }) (handsBack blank 2 0))
 
 -- ---- what the host sees
@@ -105,4 +105,4 @@ handedSeen r = record { state = r .level; told = verdictTells (r .answer) }
 
 -- the last chip's DOUT: refusals 3, 12
 unfoldable pub seenOf : ℕ → Chain → Outcome Bool (Unit {0})
-seenOf n ch = after (testedOf n ch) false (record { state = dout (chipAt (n - 1) ch); told = done tt })
+seenOf n ch = onceTested (testedOf n ch) false (record { state = dout (chipAt (n - 1) ch); told = done tt })

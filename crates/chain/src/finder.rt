@@ -55,7 +55,7 @@ pub fn next_rise(levels: u8, samples: &[u8]) -> Found
             answer: Verdict::Refused(Refusal::Record),
         };
     }
-    let test = crate::tests::checked(samples);
+    let test = crate::checks::checked(samples);
     match test {
         Verdict::Refused(e) => Found {
             rise: Rise::Nothing,

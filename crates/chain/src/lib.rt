@@ -10,10 +10,10 @@ use chip::Keys;
 use chip::LineParts;
 use chip::Readout;
 
+pub mod checks;
 pub mod finder;
 pub mod one;
 pub mod play;
-pub mod tests;
 
 ghost use mathlib.Core.Path.{_≡_};
 ghost use Rattle.chain.specs.Entries as E;
@@ -28,7 +28,7 @@ pub struct Chain {
 }
 
 // A chain handed back, and whether it was refused.
-pub struct Handed {
+pub struct HandedChain {
     pub chain: Chain,
     pub answer: Verdict,
 }
@@ -64,17 +64,17 @@ fn zero_chain() -> Chain
 }
 
 // Reset chips with zero registers and latches of 1, the wires idle: refusal 3. All places of the record are set, and N are used.
-pub fn start(n: usize) -> Handed
-    ensures { λ r. ⌜ E.handed r ≡ E.startedOf n ⌝ }
+pub fn start(n: usize) -> HandedChain
+    ensures { λ r. ⌜ E.handedChain r ≡ E.startedOf n ⌝ }
 {
-    if !tests::is_count(n) {
-        return Handed {
+    if !checks::is_count(n) {
+        return HandedChain {
             chain: zero_chain(),
             answer: Verdict::Refused(Refusal::ChipCount),
         };
     }
     let c = chip::reset_chip();
-    Handed {
+    HandedChain {
         chain: Chain {
             chips: [c; MOST],
             levels: 7,
@@ -87,7 +87,7 @@ pub fn start(n: usize) -> Handed
 pub fn host_sees(n: usize, chain: Chain) -> Seen
     ensures { λ r. ⌜ E.handedSeen r ≡ E.seenOf n chain ⌝ }
 {
-    let test = tests::tested(n, chain);
+    let test = checks::tested(n, chain);
     match test {
         Verdict::Refused(e) => Seen {
             level: false,

@@ -1,13 +1,13 @@
 // One chip of a chain: scan it, apply a command to it, see its segments lit.
 use crate::Chain;
-use crate::Handed;
-use crate::tests;
+use crate::HandedChain;
+use crate::checks;
 use base::Refusal;
 use base::Verdict;
 use chip::Chip;
 use chip::Lit;
 use chip::ScanAnswer;
-use chip::scans::Taken;
+use chip::scans::AfterScan;
 use word::Command;
 ghost use mathlib.Core.Path.{_≡_};
 ghost use Rattle.chip.specs.Scans as S;
@@ -23,7 +23,7 @@ pub struct Scanned {
 pub struct ChipScan {
     pub chain: Chain,
     pub before: Chip,
-    pub taken: Taken,
+    pub taken: AfterScan,
 }
 
 // The record at a place, or a reset chip past the last.
@@ -55,7 +55,7 @@ fn with_chip(k: usize, c: Chip, chain: Chain) -> Chain
 pub fn scan_chip(k: usize, bytes: [u8; 8], chain: Chain) -> ChipScan
     ensures { λ r. ⌜ r .chain ≡ E.withChip k (S.scanned bytes (E.chipAt k chain)) chain ⌝ }
     ensures { λ r. ⌜ r .before ≡ E.chipAt k chain ⌝ }
-    ensures { λ r. ⌜ S.tookOf (r .taken) ≡ S.taken bytes (E.chipAt k chain) ⌝ }
+    ensures { λ r. ⌜ S.leavesOf (r .taken) ≡ S.scanLeaves bytes (E.chipAt k chain) ⌝ }
 {
     let before = chip_at(k, chain);
     let taken = chip::scans::scanned(bytes, before);
@@ -71,7 +71,7 @@ pub fn scan_chip(k: usize, bytes: [u8; 8], chain: Chain) -> ChipScan
 pub fn scan(n: usize, chain: Chain, k: usize, bytes: [u8; 8]) -> Scanned
     ensures { λ r. ⌜ E.handedScan r ≡ E.scannedOf n chain k bytes ⌝ }
 {
-    let test = tests::tested(n, chain);
+    let test = checks::tested(n, chain);
     match test {
         Verdict::Refused(e) => Scanned {
             chain,
@@ -97,30 +97,30 @@ pub fn scan(n: usize, chain: Chain, k: usize, bytes: [u8; 8]) -> Scanned
 }
 
 // Applies a command directly to one chip: refusals 3, 12, 9, 2.
-pub fn apply(n: usize, chain: Chain, k: usize, command: Command) -> Handed
-    ensures { λ r. ⌜ E.handed r ≡ E.appliedOf n chain k command ⌝ }
+pub fn apply(n: usize, chain: Chain, k: usize, command: Command) -> HandedChain
+    ensures { λ r. ⌜ E.handedChain r ≡ E.appliedOf n chain k command ⌝ }
 {
-    let test = tests::tested(n, chain);
+    let test = checks::tested(n, chain);
     match test {
-        Verdict::Refused(e) => Handed {
+        Verdict::Refused(e) => HandedChain {
             chain,
             answer: Verdict::Refused(e),
         },
         Verdict::Done => {
             if !word::is_legal(command) {
-                return Handed {
+                return HandedChain {
                     chain,
                     answer: Verdict::Refused(Refusal::Field),
                 };
             }
             if k >= n {
-                return Handed {
+                return HandedChain {
                     chain,
                     answer: Verdict::Refused(Refusal::ScanChip),
                 };
             }
             let after = chip::commands::applied(command, chip_at(k, chain));
-            Handed {
+            HandedChain {
                 chain: with_chip(k, after, chain),
                 answer: Verdict::Done,
             }
@@ -132,7 +132,7 @@ pub fn apply(n: usize, chain: Chain, k: usize, command: Command) -> Handed
 pub fn segments_lit(n: usize, chain: Chain, k: usize) -> Lit
     ensures { λ r. ⌜ E.handedLit r ≡ E.segmentsOf n chain k ⌝ }
 {
-    let test = tests::tested(n, chain);
+    let test = checks::tested(n, chain);
     match test {
         Verdict::Refused(e) => Lit {
             segments: [0; 8],

@@ -1,8 +1,8 @@
 // Playing samples. A sample without an edge touches the levels alone, a DCLK edge the line parts alone; only a LOAD rise copies
 // whole chips.
 use crate::Chain;
-use crate::Handed;
-use crate::tests;
+use crate::HandedChain;
+use crate::checks;
 use base::Verdict;
 ghost use mathlib.Core.Path.{_≡_};
 ghost use Prim.Native.Nat.{_≤_};
@@ -120,23 +120,23 @@ fn played(n: usize, chain: Chain, samples: &[u8]) -> Chain
 }
 
 // Plays a block of samples: refusals 3, 12, 1. All samples are tested before any is played.
-pub fn play(n: usize, chain: Chain, samples: &[u8]) -> Handed
-    ensures { λ r. ⌜ E.handed r ≡ E.playedOf n chain (now (samples .entry)) ⌝ }
+pub fn play(n: usize, chain: Chain, samples: &[u8]) -> HandedChain
+    ensures { λ r. ⌜ E.handedChain r ≡ E.playedOf n chain (now (samples .entry)) ⌝ }
 {
-    let first = tests::tested(n, chain);
+    let first = checks::tested(n, chain);
     match first {
-        Verdict::Refused(e) => Handed {
+        Verdict::Refused(e) => HandedChain {
             chain,
             answer: Verdict::Refused(e),
         },
         Verdict::Done => {
-            let second = tests::checked(samples);
+            let second = checks::checked(samples);
             match second {
-                Verdict::Refused(e) => Handed {
+                Verdict::Refused(e) => HandedChain {
                     chain,
                     answer: Verdict::Refused(e),
                 },
-                Verdict::Done => Handed {
+                Verdict::Done => HandedChain {
                     chain: played(n, chain, samples),
                     answer: Verdict::Done,
                 },

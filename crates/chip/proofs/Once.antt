@@ -8,7 +8,7 @@ use mathlib.Core.List.{List, [], _∷_}
 use mathlib.Core.Logic.{⊎-elim}
 use Prim.Native.Nat.{ℕ, _+_, _≤_, _<_}
 use native.Mathlib.Omega.{arith}
-use Rattle.base.specs.Bits.{digit}
+use Rattle.base.specs.Bits.{bitValue}
 use Rattle.base.proofs.Picks.{pick-yes, pick-cases}
 use Rattle.word.specs.declared.Command.{Command}
 use Rattle.word.specs.declared.Command.the-variants.{NoOperation, BarLevel, SegmentClear, SegmentSet, Reset, Sleep, ShiftLeft, ShiftRight, RotateLeft, RotateRight, CustomCharacter, SystemParameters, DisplayParameters, BlinkByte, ReadKey, LoadDigit}
@@ -35,7 +35,7 @@ module _ (code : ℕ) (P : List Step → Type 0) (Held : List Step → Chip → 
   no-more (told command ∷ h) c p held = no-more h (applied command c) (rest (told command) h p) (commands command h c p held)
   no-more (scan bytes ∷ h) c p held =
       let s = scans bytes h c p held in
-      let e : digit (isKey code (recorded bytes c)) ≡ 0 = ap digit (s .0) in
+      let e : bitValue (isKey code (recorded bytes c)) ≡ 0 = ap bitValue (s .0) in
       let f = no-more h (scanned bytes c) (rest (scan bytes) h p) (s .1) in
       omega arith
 
@@ -46,7 +46,7 @@ module _ (code : ℕ) (P : List Step → Type 0) (Held : List Step → Chip → 
       by-test (isKey code (recorded bytes c)) refl (at-most-once h (scanned bytes c) (rest (scan bytes) h p))
     where
       by-test : (t : Bool) → isKey code (recorded bytes c) ≡ t → times code h (scanned bytes c) ≤ 1
-          → digit t + times code h (scanned bytes c) ≤ 1
+          → bitValue t + times code h (scanned bytes c) ≤ 1
       by-test true e l =
           let f = no-more h (scanned bytes c) (rest (scan bytes) h p) (begins bytes h c p e) in
           omega arith

@@ -11,13 +11,13 @@ use Rattle.base.proofs.Unique.{same-answer, same-verdict}
 use Rattle.chip.specs.declared.Chip.{Chip}
 use Rattle.chip.specs.declared.Recorded.{Recorded}
 use Rattle.chip.specs.declared.Recorded.the-variants as Records
-use Rattle.chip.specs.declared.Handed.{Handed}
+use Rattle.chip.specs.declared.HandedChip.{HandedChip}
 use Rattle.chip.specs.declared.ScanAnswer.{ScanAnswer}
 use Rattle.chip.specs.declared.ScanAnswer.the-variants as Answers
 use Rattle.chip.specs.declared.Lit.{Lit}
-use Rattle.chip.specs.declared.scans.Taken.{Taken}
-use Rattle.chip.specs.Scans.{Recording, nothing, keyCode, recordingOf, Took, tookOf}
-use Rattle.chip.specs.Entries.{handed, scanTells, handedLit}
+use Rattle.chip.specs.declared.scans.AfterScan.{AfterScan}
+use Rattle.chip.specs.Scans.{Recording, nothing, keyCode, recordingOf, ScanLeaves, leavesOf}
+use Rattle.chip.specs.Entries.{handedChip, scanTells, handedLit}
 use Rattle.chip.proofs.reset_chip
 use Rattle.chip.proofs.apply
 use Rattle.chip.proofs.sample
@@ -31,7 +31,7 @@ use Rattle.chip.proofs.segments
 
 -- ---- what is handed back is told
 
-handed-same : {x : Outcome Chip (Unit {0})} (r s : Handed) → handed r ≡ x → handed s ≡ x → r ≡ s
+handed-same : {x : Outcome Chip (Unit {0})} (r s : HandedChip) → handedChip r ≡ x → handedChip s ≡ x → r ≡ s
 handed-same r s p q =
     let e = same-answer p q in
     λ i. record { chip = ap (λ o. o .state) e i; answer = same-verdict {v = r .answer} {w = s .answer} (ap (λ o. o .told) e) i }
@@ -63,7 +63,7 @@ answered-back (Answers.Refused e) = ap Answers.Refused (refusal-back e)
 pub same-scan-answer : {a b : ScanAnswer} → scanTells a ≡ scanTells b → a ≡ b
 same-scan-answer {a} {b} e = sym (answered-back a) ∙ ap answered e ∙ answered-back b
 
-pub same-taken : {x : Took} (s t : Taken) → tookOf s ≡ x → tookOf t ≡ x → s ≡ t
+pub same-taken : {x : ScanLeaves} (s t : AfterScan) → leavesOf s ≡ x → leavesOf t ≡ x → s ≡ t
 same-taken s t p q =
     let e = same-answer p q in
     let what = sym (record-back (s .recorded)) ∙ ap (λ x. record-of (x .recorded)) e ∙ record-back (t .recorded) in

@@ -15,7 +15,7 @@ use native.Mathlib.Omega.{arith}
 use lib.Dec.{T, leb, eqb, leb→le, le→leb, eqb·suc-zero, T-not}
 use Rattle.base.specs.Refusals.{Told, done, refused}
 use Rattle.base.proofs.Picks.{pick-cases}
-use Rattle.base.proofs.Cuts.{digit-lt}
+use Rattle.base.proofs.Cuts.{bit-value-lt}
 use Rattle.base.proofs.Tests.{and-left, and-right, and-both}
 use Rattle.word.specs.Words.{decodedOf, legal}
 use Rattle.word.specs.declared.Command.{Command}
@@ -155,7 +155,7 @@ moved-on code (suc n) t =
 clocked-facts : (was now : ℕ) (d : Bool) (c : Chip) → Facts c → Facts (withLine (clocked was now d (c .line)) c)
 unfolding clocked
 clocked-facts was now d c v =
-    let small = digit-lt d in
+    let small = bit-value-lt d in
     pick-cases (λ (l : LineParts). Facts (withLine l c)) (dclkFalls was now)
     (λ e. record {
       register = v .register;

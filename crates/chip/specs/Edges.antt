@@ -3,7 +3,7 @@
 use Prim.Native.Nat.{ℕ, _+_, _*_, _-_, _/_}
 use mathlib.Core.Bool.{Bool, not, _&&_}
 use Rattle.base.specs.Pick.{pick}
-use Rattle.base.specs.Bits.{bit, digit}
+use Rattle.base.specs.Bits.{bit, bitValue}
 use Rattle.word.specs.Words.{decodedOf}
 use Rattle.chip.specs.declared.LineParts.{LineParts}
 use Rattle.chip.specs.declared.Chip.{Chip}
@@ -36,7 +36,7 @@ loadRises was now = not (load was) && load now
 
 -- the register moves down one place, its lowest bit is lost, DIN enters as bit 11
 abbrev pub shifted : ℕ → Bool → ℕ
-shifted register d = register / 2 + 2048 * digit d
+shifted register d = register / 2 + 2048 * bitValue d
 
 -- DCLK rise
 abbrev pub clockedIn : Bool → LineParts → LineParts

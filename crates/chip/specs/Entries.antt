@@ -8,7 +8,7 @@ use Rattle.base.specs.Refusals.{Told, done, refusedBy, Outcome, handsBack, verd
 use Rattle.word.specs.declared.Command.{Command}
 use Rattle.word.specs.Words.{legal}
 use Rattle.chip.specs.declared.Chip.{Chip}
-use Rattle.chip.specs.declared.Handed.{Handed}
+use Rattle.chip.specs.declared.HandedChip.{HandedChip}
 use Rattle.chip.specs.declared.Scanned.{Scanned}
 use Rattle.chip.specs.declared.ScanAnswer.{ScanAnswer}
 use Rattle.chip.specs.declared.ScanAnswer.the-variants as Scan
@@ -20,8 +20,8 @@ use Rattle.chip.specs.Segments.{litOf}
 use Rattle.chip.specs.Scans.{Recording, recordingOf, scanned, recorded}
 
 -- a chip handed back
-abbrev pub handed : Handed → Outcome Chip (Unit {0})
-handed r = record { state = r .chip; told = verdictTells (r .answer) }
+abbrev pub handedChip : HandedChip → Outcome Chip (Unit {0})
+handedChip r = record { state = r .chip; told = verdictTells (r .answer) }
 
 -- a command applied directly: refusals 12, 9
 unfoldable pub appliedOf : Chip → Command → Outcome Chip (Unit {0})

@@ -6,7 +6,7 @@ use mathlib.Core.List.{List, [], _∷_}
 use mathlib.Core.Logic.{_⊎_}
 use Prim.Native.Nat.{ℕ, _+_}
 use lib.Dec.{eqb}
-use Rattle.base.specs.Bits.{digit}
+use Rattle.base.specs.Bits.{bitValue}
 use Rattle.word.specs.declared.System.{System}
 use Rattle.word.specs.declared.Command.{Command}
 use Rattle.word.specs.declared.Command.the-variants.{Reset, Sleep, SystemParameters}
@@ -40,7 +40,7 @@ isKey code (keyCode k) = eqb k code
 -- how many of the records are a code's
 abbrev pub countOf : ℕ → List Recording → ℕ
 countOf code [] = 0
-countOf code (what ∷ rest) = digit (isKey code what) + countOf code rest
+countOf code (what ∷ rest) = bitValue (isKey code what) + countOf code rest
 
 -- how many times a history records a code
 abbrev pub times : ℕ → List Step → Chip → ℕ

@@ -6,10 +6,10 @@ use mathlib.Core.List.{List}
 use lib.Dec.{eqb, ltb}
 use lib.ListN.{getD}
 use Rattle.base.specs.Pick.{pick}
-use Rattle.base.specs.Bits.{bit, digit}
+use Rattle.base.specs.Bits.{bit, bitValue}
 use Rattle.chip.specs.declared.Keys.{Keys}
 use Rattle.chip.specs.declared.Chip.{Chip}
-use Rattle.chip.specs.declared.scans.Taken.{Taken}
+use Rattle.chip.specs.declared.scans.AfterScan.{AfterScan}
 use Rattle.chip.specs.declared.Recorded.{Recorded}
 use Rattle.chip.specs.declared.Recorded.the-variants.{Nothing, Key}
 use Rattle.chip.specs.Record.{none, withKeys, withSleeping, withLast}
@@ -47,7 +47,7 @@ codeOf addr = 0x40 + addr
 
 -- bit 6 of a code cleared
 abbrev pub released : ℕ → ℕ
-released code = code - 0x40 * digit (bit code 6)
+released code = code - 0x40 * bitValue (bit code 6)
 
 -- result and last scan are the same address, and its code isn't held already
 abbrev pub newKey : ℕ → Keys → Bool
@@ -91,14 +91,14 @@ abbrev pub recorded : List ℕ → Chip → Recording
 recorded bytes c = recordedBy (result bytes) c
 
 -- a chip after a scan, and what the scan recorded
-pub record Took : Type 0 where
+pub record ScanLeaves : Type 0 where
   pub chip : Chip
   pub recorded : Recording
 
 -- what the step that takes a scan answers
-abbrev pub tookOf : Taken → Took
-tookOf t = record { chip = t .chip; recorded = recordingOf (t .recorded) }
+abbrev pub leavesOf : AfterScan → ScanLeaves
+leavesOf t = record { chip = t .chip; recorded = recordingOf (t .recorded) }
 
 -- the step that takes a scan
-abbrev pub taken : List ℕ → Chip → Took
-taken bytes c = record { chip = scanned bytes c; recorded = recorded bytes c }
+abbrev pub scanLeaves : List ℕ → Chip → ScanLeaves
+scanLeaves bytes c = record { chip = scanned bytes c; recorded = recorded bytes c }

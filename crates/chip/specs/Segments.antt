@@ -6,7 +6,7 @@ use mathlib.Core.List.{List, [], _∷_}
 use lib.Dec.{eqb, ltb}
 use lib.ListN.{getD}
 use Rattle.base.specs.Pick.{pick}
-use Rattle.base.specs.Bits.{cut, bit, digit}
+use Rattle.base.specs.Bits.{cut, bit, bitValue}
 use Rattle.chip.specs.declared.Settings.{Settings}
 use Rattle.chip.specs.declared.Chip.{Chip}
 
@@ -28,7 +28,7 @@ shape custom code = pick (eqb code 0x1E) (cut custom 0 7) (getD shapes code 0)
 
 -- MODE 1: bits 4 to 0 give segments G to A, bit 7 alone gives the point
 unfoldable pub bcd : ℕ → ℕ → ℕ
-bcd custom byte = shape custom (cut byte 0 5) + 128 * digit (bit byte 7)
+bcd custom byte = shape custom (cut byte 0 5) + 128 * bitValue (bit byte 7)
 
 -- nothing is lit when DISP is 0, when asleep, or when the digit isn't below the limit
 abbrev pub dark : Settings → ℕ → Bool

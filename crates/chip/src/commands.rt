@@ -84,7 +84,7 @@ fn with_bit(byte: u8, seg: u8, on: bool) -> u8
 {
     let wide = byte as u16;
     let at = seg as u16;
-    if base::field(wide, at, 1) == base::digit_of(on) {
+    if base::field(wide, at, 1) == base::bit_value(on) {
         return byte;
     }
     if on {

@@ -52,7 +52,7 @@ pub fn load_rises(was: u8, now: u8) -> bool
 pub fn shifted(register: u16, din: bool) -> u16
     ensures { λ r. ⌜ r ≡ E.shifted register din ⌝ }
 {
-    (register >> 1) + (base::digit_of(din) << 11)
+    (register >> 1) + (base::bit_value(din) << 11)
 }
 
 // Register bit 0, which the latch takes at a DCLK fall.

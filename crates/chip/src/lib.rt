@@ -15,7 +15,7 @@ pub mod segments;
 
 ghost use mathlib.Core.Path.{_≡_};
 ghost use Rattle.chip.specs.Record.{resetChip, valid, validLine, validSettings, validKeys, validReadout};
-ghost use Rattle.chip.specs.Entries.{handed, appliedOf, sampledOf, handedScan, scannedOf, handedLit, segmentsOf};
+ghost use Rattle.chip.specs.Entries.{handedChip, appliedOf, sampledOf, handedScan, scannedOf, handedLit, segmentsOf};
 
 // What is left of a readout: bits of a code, K6 first. With 0 bits left there is none.
 pub struct Readout {
@@ -65,7 +65,7 @@ pub enum Recorded {
 }
 
 // A chip handed back, and whether it was refused.
-pub struct Handed {
+pub struct HandedChip {
     pub chip: Chip,
     pub answer: Verdict,
 }
@@ -164,50 +164,50 @@ pub fn is_valid(chip: Chip) -> bool
 }
 
 // A command applied directly, as a LOAD rise applies it: refusals 12, 9.
-pub fn apply(chip: Chip, command: Command) -> Handed
-    ensures { λ r. ⌜ handed r ≡ appliedOf chip command ⌝ }
+pub fn apply(chip: Chip, command: Command) -> HandedChip
+    ensures { λ r. ⌜ handedChip r ≡ appliedOf chip command ⌝ }
 {
     if !is_valid(chip) {
-        return Handed {
+        return HandedChip {
             chip,
             answer: Verdict::Refused(Refusal::Record),
         };
     }
     if !word::is_legal(command) {
-        return Handed {
+        return HandedChip {
             chip,
             answer: Verdict::Refused(Refusal::Field),
         };
     }
-    Handed {
+    HandedChip {
         chip: commands::applied(command, chip),
         answer: Verdict::Done,
     }
 }
 
 // One sample, after the levels given: refusals 12, 1.
-pub fn sample(chip: Chip, levels: u8, sample: u8) -> Handed
-    ensures { λ r. ⌜ handed r ≡ sampledOf chip levels sample ⌝ }
+pub fn sample(chip: Chip, levels: u8, sample: u8) -> HandedChip
+    ensures { λ r. ⌜ handedChip r ≡ sampledOf chip levels sample ⌝ }
 {
     if !is_valid(chip) {
-        return Handed {
+        return HandedChip {
             chip,
             answer: Verdict::Refused(Refusal::Record),
         };
     }
     if levels > 7 {
-        return Handed {
+        return HandedChip {
             chip,
             answer: Verdict::Refused(Refusal::Record),
         };
     }
     if sample > 7 {
-        return Handed {
+        return HandedChip {
             chip,
             answer: Verdict::Refused(Refusal::Sample(0)),
         };
     }
-    Handed {
+    HandedChip {
         chip: edges::stepped(chip, levels, sample, edges::din(sample)),
         answer: Verdict::Done,
     }

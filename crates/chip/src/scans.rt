@@ -108,17 +108,17 @@ fn recorded_by(r: u8, chip: Chip) -> Recorded
 }
 
 // A chip after a scan, and what the scan recorded.
-pub struct Taken {
+pub struct AfterScan {
     pub chip: Chip,
     pub recorded: Recorded,
 }
 
 // One scan of a chip.
-pub fn scanned(bytes: [u8; 8], chip: Chip) -> Taken
-    ensures { λ t. ⌜ S.tookOf t ≡ S.taken bytes chip ⌝ }
+pub fn scanned(bytes: [u8; 8], chip: Chip) -> AfterScan
+    ensures { λ t. ⌜ S.leavesOf t ≡ S.scanLeaves bytes chip ⌝ }
 {
     let r = result(bytes);
-    Taken {
+    AfterScan {
         chip: scanned_by(r, chip),
         recorded: recorded_by(r, chip),
     }

@@ -22,7 +22,7 @@ use Rattle.chip.specs.Segments.{litOf}
 use Rattle.chip.specs.Entries as One
 use Rattle.chain.specs.declared.Chain.{Chain}
 use Rattle.chain.specs.Chain.{most, allValid, testedOf, checkedFrom, steppedRow, played}
-use Rattle.chain.specs.Entries.{after, chipAt, withChip, playedOf, scannedOf, appliedOf, segmentsOf}
+use Rattle.chain.specs.Entries.{onceTested, chipAt, withChip, playedOf, scannedOf, appliedOf, segmentsOf}
 use Rattle.demands.specs.Alone.{SameAlone, AloneIsOne}
 
 -- the first tests of a chain of one
@@ -36,7 +36,7 @@ module _ (c : Chip) (cs : List Chip) (levels : ℕ) where
   -- one sample: by the three tests
   sample-so : (s : ℕ) (v l k : Bool) (next : Chain) (d : Chip) → chipAt 0 next ≡ d
       → SameAlone {A = Unit {0}}
-      (after (first-tests v l) ch (after (pick k (done tt) (refused 1 0)) ch (record { state = next; told = done tt })))
+      (onceTested (first-tests v l) ch (onceTested (pick k (done tt) (refused 1 0)) ch (record { state = next; told = done tt })))
       (pick v (pick l (pick k (record { state = d; told = done tt }) (handsBack c 1 0)) (handsBack c 12 0)) (handsBack c 12 0))
   sample-so s true true true next d e = (refl, e)
   sample-so s true true false next d e = (refl, refl)
@@ -45,13 +45,13 @@ module _ (c : Chip) (cs : List Chip) (levels : ℕ) where
 
   -- a chip that is named, in range: by the record's test
   named-so : {A : Type 0} (v l : Bool) → l ≡ true → (next : Outcome Chain A) (one : Outcome Chip A) → SameAlone next one
-      → SameAlone (after (first-tests v l) ch next) (pick v one (handsBack c 12 0))
+      → SameAlone (onceTested (first-tests v l) ch next) (pick v one (handsBack c 12 0))
   named-so true true e next one y = y
   named-so true false e next one y = let z : _≡_ {A = ℕ} 0 1 = cc in absurd (omega arith)
   named-so false l e next one y = (refl, refl)
 
   lit-so : (v l : Bool) → l ≡ true → (segments : List ℕ)
-      → after {A = Unit {0}} (first-tests v l) blank (record { state = segments; told = done tt }) ≡ pick v (record { state = segments; told = done tt }) (handsBack blank 12 0)
+      → onceTested {A = Unit {0}} (first-tests v l) blank (record { state = segments; told = done tt }) ≡ pick v (record { state = segments; told = done tt }) (handsBack blank 12 0)
   lit-so true true e segments = refl
   lit-so true false e segments = let z : _≡_ {A = ℕ} 0 1 = cc in absurd (omega arith)
   lit-so false l e segments = refl

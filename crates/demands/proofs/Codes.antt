@@ -13,7 +13,7 @@ use native.Mathlib.Omega.{arith}
 use lib.Dec.{eqb}
 use lib.ListN.{length, replicate}
 use borrow.Author.Tests.{eq-eqb, ne-eqb}
-use Rattle.base.specs.Bits.{digit}
+use Rattle.base.specs.Bits.{bitValue}
 use Rattle.base.specs.Pick.{pick}
 use Rattle.base.proofs.Picks.{pick-yes, pick-no, pick-cases}
 use Rattle.chip.specs.declared.Chip.{Chip}
@@ -50,16 +50,16 @@ module _ (a : ℕ) where
       → codesIn rest ≡ replicate (countOf (codeOf a) rest) (codeOf a)
       → codesIn (what ∷ rest) ≡ replicate (countOf (codeOf a) (what ∷ rest)) (codeOf a)
   code-more what rest (inl e) p =
-      let same : countOf (codeOf a) rest ≡ digit (isKey (codeOf a) nothing) + countOf (codeOf a) rest = omega arith in
+      let same : countOf (codeOf a) rest ≡ bitValue (isKey (codeOf a) nothing) + countOf (codeOf a) rest = omega arith in
       ap (λ w. codesIn (w ∷ rest)) e
       ∙ p
-      ∙ ap (λ m. replicate m (codeOf a)) (same ∙ ap (λ w. digit (isKey (codeOf a) w) + countOf (codeOf a) rest) (sym e))
+      ∙ ap (λ m. replicate m (codeOf a)) (same ∙ ap (λ w. bitValue (isKey (codeOf a) w) + countOf (codeOf a) rest) (sym e))
   code-more what rest (inr e) p =
-      let one : digit (eqb (codeOf a) (codeOf a)) ≡ 1 = ap digit (eq-eqb (codeOf a) (codeOf a) refl) in
-      let same : suc (countOf (codeOf a) rest) ≡ digit (eqb (codeOf a) (codeOf a)) + countOf (codeOf a) rest = omega arith in
+      let one : bitValue (eqb (codeOf a) (codeOf a)) ≡ 1 = ap bitValue (eq-eqb (codeOf a) (codeOf a) refl) in
+      let same : suc (countOf (codeOf a) rest) ≡ bitValue (eqb (codeOf a) (codeOf a)) + countOf (codeOf a) rest = omega arith in
       ap (λ w. codesIn (w ∷ rest)) e
       ∙ ap (λ xs. codeOf a ∷ xs) p
-      ∙ ap (λ m. replicate m (codeOf a)) (same ∙ ap (λ w. digit (isKey (codeOf a) w) + countOf (codeOf a) rest) (sym e))
+      ∙ ap (λ m. replicate m (codeOf a)) (same ∙ ap (λ w. bitValue (isKey (codeOf a) w) + countOf (codeOf a) rest) (sym e))
 
   codes-are : (h : List Step) (c : Chip) → Each (λ r. (r ≡ a) ⊎ (r ≡ none)) (resultsOf h) → codesIn (recordsOf h c) ≡ replicate (times (codeOf a) h c) (codeOf a)
   codes-are [] c p = refl
@@ -80,8 +80,8 @@ recorded-key r c w k new = pick-yes _ _ (λ i. not (w i) && k i && new i)
 
 module _ (a : ℕ) (small : a < none) (c : Chip) (awake : c .settings .sleeping ≡ false) (keypad : c .settings .system .keyb ≡ true) (free : c .keys .code ≡ codeOf a → ⊥) where
   -- a record of a's code counts
-  counts : (what : Recording) → what ≡ keyCode (codeOf a) → digit (isKey (codeOf a) what) ≡ 1
-  counts what e = ap (λ w. digit (isKey (codeOf a) w)) e ∙ ap digit (eq-eqb (codeOf a) (codeOf a) refl)
+  counts : (what : Recording) → what ≡ keyCode (codeOf a) → bitValue (isKey (codeOf a) what) ≡ 1
+  counts what e = ap (λ w. bitValue (isKey (codeOf a) w)) e ∙ ap bitValue (eq-eqb (codeOf a) (codeOf a) refl)
 
   -- after one scan that didn't record it, the next finds a new key
   next-new : newKey a (c .keys) ≡ false → newKey a (keyed a (c .keys)) ≡ true
@@ -91,11 +91,11 @@ module _ (a : ℕ) (small : a < none) (c : Chip) (awake : c .settings .sleeping 
       other : keyed a (c .keys) .code ≡ codeOf a → ⊥
       other e = free (sym (keyed-code a (c .keys) n (address-not-none a (c .keys) small)) ∙ e)
 
-  one-of-two : 1 ≤ digit (isKey (codeOf a) (recordedBy a c)) + digit (isKey (codeOf a) (recordedBy a (scannedBy a c)))
+  one-of-two : 1 ≤ bitValue (isKey (codeOf a) (recordedBy a c)) + bitValue (isKey (codeOf a) (recordedBy a (scannedBy a c)))
   one-of-two = go (newKey a (c .keys)) refl
     where
       go : (b : Bool) → newKey a (c .keys) ≡ b
-          → 1 ≤ digit (isKey (codeOf a) (recordedBy a c)) + digit (isKey (codeOf a) (recordedBy a (scannedBy a c)))
+          → 1 ≤ bitValue (isKey (codeOf a) (recordedBy a c)) + bitValue (isKey (codeOf a) (recordedBy a (scannedBy a c)))
       go true e = let f = counts (recordedBy a c) (recorded-key a c awake keypad e) in omega arith
       go false e =
           let same = scanned-on a c awake keypad in
@@ -107,9 +107,9 @@ module _ (a : ℕ) (small : a < none) (c : Chip) (awake : c .settings .sleeping 
   found-twice : (one two : List ℕ) (h : List Step) → result one ≡ a → result two ≡ a → 1 ≤ times (codeOf a) (scan one ∷ scan two ∷ h) c
   found-twice one two h e f =
       let l = one-of-two in
-      let p : digit (isKey (codeOf a) (recorded one c)) ≡ digit (isKey (codeOf a) (recordedBy a c)) = ap (λ r. digit (isKey (codeOf a) (recordedBy r c))) e in
-      let q : digit (isKey (codeOf a) (recorded two (scanned one c))) ≡ digit (isKey (codeOf a) (recordedBy a (scannedBy a c))) =
-      ap₂ (λ r s. digit (isKey (codeOf a) (recordedBy s (scannedBy r c)))) e f in
+      let p : bitValue (isKey (codeOf a) (recorded one c)) ≡ bitValue (isKey (codeOf a) (recordedBy a c)) = ap (λ r. bitValue (isKey (codeOf a) (recordedBy r c))) e in
+      let q : bitValue (isKey (codeOf a) (recorded two (scanned one c))) ≡ bitValue (isKey (codeOf a) (recordedBy a (scannedBy a c))) =
+      ap₂ (λ r s. bitValue (isKey (codeOf a) (recordedBy s (scannedBy r c)))) e f in
       omega arith
 
 -- ---- chip k of a chain

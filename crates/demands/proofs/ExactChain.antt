@@ -11,7 +11,7 @@ use Rattle.word.specs.declared.Command.{Command}
 use Rattle.word.specs.Words.{legal}
 use Rattle.chain.specs.declared.Chain.{Chain}
 use Rattle.chain.specs.Chain.{chipCount, checkedFrom, testedOf}
-use Rattle.chain.specs.Entries.{after, startedOf, playedOf, scannedOf, appliedOf, segmentsOf, seenOf}
+use Rattle.chain.specs.Entries.{onceTested, startedOf, playedOf, scannedOf, appliedOf, segmentsOf, seenOf}
 use Rattle.chain.specs.Finder.{reported, lookedOf, foundOf}
 use Rattle.demands.specs.Exact.{Row, each, Exactly}
 use Rattle.demands.specs.Tables.{sampleRow, startTable, chainTable, playTable, oneTable, oneApplyTable, findTable}
@@ -23,13 +23,13 @@ use Rattle.demands.proofs.ByTable.{ByTable, answered, by-table, tested,
 -- a test, and what an entry does where it is passed
 told-after : {S A : Type 0} (t : Told (Unit {0})) (given : S) (next : Outcome S A) {rows : List Row} (more : List Row) → ByTable t rows
     → ByTable (next .told) more
-    → ByTable (after t given next .told) (rows ++ more)
+    → ByTable (onceTested t given next .told) (rows ++ more)
 told-after (done u) given next more y z = goes-on y z
 told-after (refused number place) given next more y z = stays more y
 
 -- a test that is the last
 told-only : {S : Type 0} (t : Told (Unit {0})) (given s : S) {rows : List Row} → ByTable t rows
-    → ByTable {A = Unit {0}} (after t given (record { state = s; told = done tt }) .told) rows
+    → ByTable {A = Unit {0}} (onceTested t given (record { state = s; told = done tt }) .told) rows
 told-only (done u) given s y = done-done tt y
 told-only (refused number place) given s y = y
 

@@ -20,7 +20,7 @@ use Rattle.capture.specs.Frames.{Form, firstOf, formOf}
 use Rattle.capture.specs.Reports.{refusalLine}
 use Rattle.capture.specs.Replay.{taken, linesOut, afterFirst, allOut, outputOf}
 use Rattle.capture.specs.Parts.{chipsIn, firstIn}
-use Rattle.capture.specs.Law.{lineTaken, AllTaken, after, wrote}
+use Rattle.capture.specs.Law.{lineTaken, AllTaken, chainAfter, wrote}
 use Rattle.capture.proofs.Law.{lines-taken, lines-refused}
 use Rattle.demands.specs.Exact.{each, None, First}
 use Rattle.demands.specs.Texts.{FirstLine, OtherLine, lineRow, lineRows, textTable, Output}
@@ -87,7 +87,7 @@ module _ (what : Report) (first : Line) (n : ℕ) (gave : FirstLine first n) whe
   lines-refusal line ch ls number place f =
       let s = split line ch ls number place f in
       let p = s .at in
-      let r = form-refused (after what n ch (s .taken-ones)) (s .refused-one) (formOf n (bytesIn (s .refused-one))) (view (s .refused-one)) (s .no-form) in
+      let r = form-refused (chainAfter what n ch (s .taken-ones)) (s .refused-one) (formOf n (bytesIn (s .refused-one))) (view (s .refused-one)) (s .no-form) in
       let q : place - line ≡ length (s .taken-ones) = omega arith in
       ap (linesOut what n line ch) (s .whole)
       ∙ lines-refused what n line ch (s .taken-ones) (s .refused-one) (s .others) 10 0 (s .each-taken) r

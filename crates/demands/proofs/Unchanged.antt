@@ -20,7 +20,7 @@ use Rattle.chip.specs.Record.{valid}
 use Rattle.chip.specs.Entries as One
 use Rattle.chain.specs.Chain.{chipCount, checkedFrom, testedOf}
 use Rattle.chain.specs.Finder.{Report, reported, noReport, lookedOf, foundOf}
-use Rattle.chain.specs.Entries.{after, startedOf, playedOf, scannedOf, appliedOf, segmentsOf, seenOf}
+use Rattle.chain.specs.Entries.{onceTested, startedOf, playedOf, scannedOf, appliedOf, segmentsOf, seenOf}
 use Rattle.writer.specs.Rows.{written}
 use Rattle.writer.specs.Written.{answerOf, bytesBy}
 use Rattle.capture.specs.declared.Report as Capture
@@ -46,7 +46,7 @@ by-pick : {S A : Type 0} (b : Bool) (x y : Outcome S A) {given : S} → HandsBac
 by-pick true x y p q = p
 by-pick false x y p q = q
 
-by-after : {S A : Type 0} (t : Told (Unit {0})) (given : S) (next : Outcome S A) → HandsBack next given → HandsBack (after t given next) given
+by-after : {S A : Type 0} (t : Told (Unit {0})) (given : S) (next : Outcome S A) → HandsBack next given → HandsBack (onceTested t given next) given
 by-after (done u) given next p = p
 by-after (refused number place) given next p = λ m q e. refl
 

@@ -10,7 +10,7 @@ use mathlib.Core.List.{List, [], _∷_, _++_, map, append-assoc}
 use Prim.Native.Nat.{ℕ, zero, suc, _+_, _≤_, _<_}
 use native.Mathlib.Omega.{arith}
 use lib.ListN.{length}
-use Rattle.base.specs.Bits.{digit}
+use Rattle.base.specs.Bits.{bitValue}
 use Rattle.base.proofs.Picks.{pick-no}
 use Rattle.chip.specs.Edges.{din, dclk, load, dclkFalls, dclkRises, loadRises}
 use Rattle.chain.proofs.Shift.{push, pushes}
@@ -72,7 +72,7 @@ pub record Wires (b : ℕ) : Type 0 where
   pub high : dclk (6 + b) ≡ true
   pub load-low : load (4 + b) ≡ true
   pub load-high : load (6 + b) ≡ true
-  pub bit : digit (din (6 + b)) ≡ b
+  pub bit : bitValue (din (6 + b)) ≡ b
 
 pub wires : (b : ℕ) → b < 2 → Wires b
 wires zero h = record { low = refl; high = refl; load-low = refl; load-high = refl; bit = refl }

@@ -14,9 +14,9 @@ use Rattle.base.specs.Refusals.{IsDone}
 use Rattle.chip.specs.Record.{bodyOf}
 use Rattle.chip.specs.History.{after}
 use Rattle.chain.specs.declared.Chain.{Chain}
-use Rattle.chain.specs.declared.Handed.{Handed}
+use Rattle.chain.specs.declared.HandedChain.{HandedChain}
 use Rattle.chain.specs.declared.one.Scanned.{Scanned}
-use Rattle.chain.specs.Entries.{chipAt, handed, playedOf, handedScan, scannedOf}
+use Rattle.chain.specs.Entries.{chipAt, handedChain, playedOf, handedScan, scannedOf}
 use Rattle.writer.specs.declared.Written.{Written}
 use Rattle.writer.specs.declared.Written.the-variants.{Samples}
 use Rattle.writer.specs.Rows.{rowsOf}
@@ -50,8 +50,8 @@ blocksOf (scan k bytes ∷ calls) = blocksOf calls
 -- results of calls, in order, each as the contract of its entry allows it for the chain that the call before handed back
 pub data Ran (n : ℕ) : Chain → List Call → Chain → Type 0 where
   over : {ch : Chain} → Ran n ch [] ch
-  played : {ch ch′ : Chain} {block : List ℕ} {calls : List Call} (r : Handed)
-      → handed r ≡ playedOf n ch block
+  played : {ch ch′ : Chain} {block : List ℕ} {calls : List Call} (r : HandedChain)
+      → handedChain r ≡ playedOf n ch block
       → Ran n (r .chain) calls ch′
       → Ran n ch (play block ∷ calls) ch′
   scanned : {ch ch′ : Chain} {k : ℕ} {bytes : List ℕ} {calls : List Call} (r : Scanned)
@@ -62,7 +62,7 @@ pub data Ran (n : ℕ) : Chain → List Call → Chain → Type 0 where
 -- no call was refused
 abbrev pub AllDone : {n : ℕ} {ch ch′ : Chain} {calls : List Call} → Ran n ch calls ch′ → Type 0
 AllDone over = Unit {0}
-AllDone (played r contract next) = IsDone (handed r .told) × AllDone next
+AllDone (played r contract next) = IsDone (handedChain r .told) × AllDone next
 AllDone (scanned r contract next) = IsDone (handedScan r .told) × AllDone next
 
 -- ---- the statement

@@ -6,16 +6,16 @@ use Prim.Native.Nat.{ℕ}
 use Rattle.base.specs.Refusals.{IsDone}
 use Rattle.word.specs.declared.Command.{Command}
 use Rattle.chip.specs.declared.Chip.{Chip}
-use Rattle.chip.specs.declared.Handed.{Handed}
+use Rattle.chip.specs.declared.HandedChip.{HandedChip}
 use Rattle.chip.specs.declared.Scanned.{Scanned}
-use Rattle.chip.specs.Entries.{handed, appliedOf, handedScan, scannedOf}
+use Rattle.chip.specs.Entries.{handedChip, appliedOf, handedScan, scannedOf}
 use Rattle.chip.specs.History.{Step, told, scan, after}
 
 -- results of calls, one for each step, each as the contract of its entry allows it for the chip that the call before handed back
 pub data Directly : Chip → List Step → Chip → Type 0 where
   over : {c : Chip} → Directly c [] c
-  applied : {c end : Chip} {command : Command} {steps : List Step} (r : Handed)
-      → handed r ≡ appliedOf c command
+  applied : {c end : Chip} {command : Command} {steps : List Step} (r : HandedChip)
+      → handedChip r ≡ appliedOf c command
       → Directly (r .chip) steps end
       → Directly c (told command ∷ steps) end
   scanned : {c end : Chip} {bytes : List ℕ} {steps : List Step} (r : Scanned)
@@ -26,7 +26,7 @@ pub data Directly : Chip → List Step → Chip → Type 0 where
 -- no call was refused
 abbrev pub EachAccepted : {c end : Chip} {steps : List Step} → Directly c steps end → Type 0
 EachAccepted over = Unit {0}
-EachAccepted (applied r contract next) = IsDone (handed r .told) × EachAccepted next
+EachAccepted (applied r contract next) = IsDone (handedChip r .told) × EachAccepted next
 EachAccepted (scanned r contract next) = IsDone (handedScan r .told) × EachAccepted next
 
 -- the entries accept every step, and hand back what the definitions say; and such calls have results

@@ -13,18 +13,18 @@ use lib.ListN.{length, getD, take, drop}
 use Rattle.base.specs.Refusals.{refused, Outcome, verdictTells}
 use Rattle.word.specs.declared.Command.{Command}
 use Rattle.chip.specs.declared.Chip.{Chip}
-use Rattle.chip.specs.declared.Handed as ChipHanded
+use Rattle.chip.specs.declared.HandedChip.{HandedChip}
 use Rattle.chip.specs.declared.Scanned as ChipScanned
 use Rattle.chip.specs.declared.Lit.{Lit}
 use Rattle.chip.specs.Record.{blank}
 use Rattle.chip.specs.Entries as One
 use Rattle.chain.specs.declared.Chain.{Chain}
-use Rattle.chain.specs.declared.Handed.{Handed}
+use Rattle.chain.specs.declared.HandedChain.{HandedChain}
 use Rattle.chain.specs.declared.Seen.{Seen}
 use Rattle.chain.specs.declared.one.Scanned.{Scanned}
 use Rattle.chain.specs.declared.finder.Found.{Found}
 use Rattle.chain.specs.Finder.{handedFound, foundOf, noReport}
-use Rattle.chain.specs.Entries.{handed, startedOf, zeroChain, playedOf, handedScan, scannedOf, appliedOf, handedLit, segmentsOf, handedSeen, seenOf}
+use Rattle.chain.specs.Entries.{handedChain, startedOf, zeroChain, playedOf, handedScan, scannedOf, appliedOf, handedLit, segmentsOf, handedSeen, seenOf}
 use Rattle.writer.specs.declared.Written.{Written}
 use Rattle.writer.specs.Written.{writtenTells, Writes}
 use Rattle.capture.specs.declared.Report.{Report}
@@ -59,15 +59,15 @@ TextKept what =
 -- a refusal changes no chip and no byte of a lent buffer
 pub record RefusalsChangeNothing : Type 0 where
   -- one chip: the chip handed back is the one given; no segment is lit
-  pub chipApply : (c : Chip) (command : Command) (r : ChipHanded.Handed) → One.handed r ≡ One.appliedOf c command → HandsBack (One.handed r) c
-  pub chipSample : (c : Chip) (levels sample : ℕ) (r : ChipHanded.Handed) → One.handed r ≡ One.sampledOf c levels sample → HandsBack (One.handed r) c
+  pub chipApply : (c : Chip) (command : Command) (r : HandedChip) → One.handedChip r ≡ One.appliedOf c command → HandsBack (One.handedChip r) c
+  pub chipSample : (c : Chip) (levels sample : ℕ) (r : HandedChip) → One.handedChip r ≡ One.sampledOf c levels sample → HandsBack (One.handedChip r) c
   pub chipScan : (c : Chip) (bytes : List ℕ) (r : ChipScanned.Scanned) → One.handedScan r ≡ One.scannedOf c bytes → HandsBack (One.handedScan r) c
   pub chipSegments : (c : Chip) (r : Lit) → One.handedLit r ≡ One.segmentsOf c → HandsBack (One.handedLit r) blank
   -- a chain: the chain handed back is the one given (`start`: zeros); no segment is lit, the host sees low, no rise and 0 passed
-  pub start : (n : ℕ) (r : Handed) → handed r ≡ startedOf n → HandsBack (handed r) zeroChain
-  pub play : (n : ℕ) (ch : Chain) (samples : List ℕ) (r : Handed) → handed r ≡ playedOf n ch samples → HandsBack (handed r) ch
+  pub start : (n : ℕ) (r : HandedChain) → handedChain r ≡ startedOf n → HandsBack (handedChain r) zeroChain
+  pub play : (n : ℕ) (ch : Chain) (samples : List ℕ) (r : HandedChain) → handedChain r ≡ playedOf n ch samples → HandsBack (handedChain r) ch
   pub scan : (n : ℕ) (ch : Chain) (k : ℕ) (bytes : List ℕ) (r : Scanned) → handedScan r ≡ scannedOf n ch k bytes → HandsBack (handedScan r) ch
-  pub apply : (n : ℕ) (ch : Chain) (k : ℕ) (command : Command) (r : Handed) → handed r ≡ appliedOf n ch k command → HandsBack (handed r) ch
+  pub apply : (n : ℕ) (ch : Chain) (k : ℕ) (command : Command) (r : HandedChain) → handedChain r ≡ appliedOf n ch k command → HandsBack (handedChain r) ch
   pub segments : (n : ℕ) (ch : Chain) (k : ℕ) (r : Lit) → handedLit r ≡ segmentsOf n ch k → HandsBack (handedLit r) blank
   pub hostSees : (n : ℕ) (ch : Chain) (r : Seen) → handedSeen r ≡ seenOf n ch → HandsBack (handedSeen r) false
   pub find : (levels : ℕ) (samples : List ℕ) (r : Found) → handedFound r ≡ foundOf levels samples → HandsBack (handedFound r) noReport

@@ -57,7 +57,7 @@ fn numbered(number: u64, place: u64) {
 }
 
 // Whether a chain was refused, and the levels that it keeps.
-fn answered(h: chain::Handed) {
+fn answered(h: chain::HandedChain) {
     let v = h.answer;
     verdict(v);
     let ch = h.chain;

@@ -11,11 +11,11 @@ use Prim.Native.Nat.{ℕ, _+_, _≤_}
 use native.Mathlib.Omega.{arith}
 use borrow.Author.Tests.{le-leb, lt-leb, eq-eqb, ne-eqb}
 use lib.Dec.{T, leb, eqb, eqb→eq, leb→le}
-use Rattle.base.specs.Bits.{cut, digit}
+use Rattle.base.specs.Bits.{cut, bitValue}
 use Rattle.base.specs.Below.{below, count}
 use Rattle.base.specs.Refusals.{Told, done, refused}
 use Rattle.base.proofs.Picks.{pick-yes, pick-no}
-use Rattle.base.proofs.Cuts.{digit-lt}
+use Rattle.base.proofs.Cuts.{bit-value-lt}
 use Rattle.base.proofs.Tests.{at-below, and-left, and-right, by-order}
 use Rattle.word.specs.Words.{decodedOf, wordOf, legal, plain, unlisted}
 use Rattle.word.specs.declared.Command.{Command}
@@ -27,7 +27,7 @@ use Rattle.word.proofs.Rows.{fits-row, above-unlisted}
 -- ---- commands to words and back
 
 -- a bit is read back from the number that it is
-bit-back : (b : Bool) (n : ℕ) → n ≡ digit b → eqb n 1 ≡ b
+bit-back : (b : Bool) (n : ℕ) → n ≡ bitValue b → eqb n 1 ≡ b
 bit-back true n e = ap (λ (x : ℕ). eqb x 1) e
 bit-back false n e = ap (λ (x : ℕ). eqb x 1) e
 
@@ -38,11 +38,11 @@ module _ (s : System) where
 
   system-back : decodedOf system-word ≡ done (SystemParameters s)
   system-back =
-      let i = digit-lt (s .intm) in
-      let p = digit-lt (s .sspd) in
-      let l = digit-lt (s .dplr) in
-      let k = digit-lt (s .keyb) in
-      let d = digit-lt (s .disp) in
+      let i = bit-value-lt (s .intm) in
+      let p = bit-value-lt (s .sspd) in
+      let l = bit-value-lt (s .dplr) in
+      let k = bit-value-lt (s .keyb) in
+      let d = bit-value-lt (s .disp) in
       fits-row system-word 11 tt (omega arith)
       ∙ pick-no _ _ (ne-eqb (cut system-word 2 1) 1 (omega arith))
       ∙ (λ j.
@@ -60,7 +60,7 @@ module _ (d : Display) (h : d .limit ≤ 7) where
 
   display-back : decodedOf display-word ≡ done (DisplayParameters d)
   display-back =
-      let m = digit-lt (d .mode) in
+      let m = bit-value-lt (d .mode) in
       fits-row display-word 12 tt (omega arith)
       ∙ pick-yes _ _ (eq-eqb (cut display-word 0 4) 0 (omega arith))
       ∙ (λ j.

@@ -5,7 +5,7 @@ use mathlib.Core.Bool.{Bool, true, _&&_}
 use mathlib.Core.List.{List, [], _∷_}
 use lib.Dec.{eqb, leb}
 use Rattle.base.specs.Pick.{pick}
-use Rattle.base.specs.Bits.{cut, bit, digit}
+use Rattle.base.specs.Bits.{cut, bit, bitValue}
 use Rattle.base.specs.Refusals.{Told, done, refused}
 use Rattle.word.specs.Ranges.{mostOf}
 use Rattle.word.specs.declared.Command.{Command}
@@ -78,8 +78,8 @@ wordOf RotateLeft = 0b001100000001
 wordOf RotateRight = 0b001100000011
 wordOf (CustomCharacter shape) = 0b001110000000 + shape
 wordOf (SystemParameters s) =
-    0b010000000000 + 32 * digit (s .intm) + 16 * digit (s .sspd) + 8 * digit (s .dplr) + 2 * digit (s .keyb) + digit (s .disp)
-wordOf (DisplayParameters d) = 0b010100000000 + 128 * digit (d .mode) + 16 * d .limit
+    0b010000000000 + 32 * bitValue (s .intm) + 16 * bitValue (s .sspd) + 8 * bitValue (s .dplr) + 2 * bitValue (s .keyb) + bitValue (s .disp)
+wordOf (DisplayParameters d) = 0b010100000000 + 128 * bitValue (d .mode) + 16 * d .limit
 wordOf (BlinkByte byte) = 0b011000000000 + byte
 wordOf ReadKey = 0b011100000000
 wordOf (LoadDigit dig byte) = 0b100000000000 + 256 * dig + byte

@@ -212,11 +212,11 @@ fn system_word(s: System) -> u16
     ensures { λ r. ⌜ r ≡ wordOf (Command.SystemParameters s) ⌝ }
 {
     0b010000000000
-        + 32 * base::digit_of(s.intm)
-        + 16 * base::digit_of(s.sspd)
-        + 8 * base::digit_of(s.dplr)
-        + 2 * base::digit_of(s.keyb)
-        + base::digit_of(s.disp)
+        + 32 * base::bit_value(s.intm)
+        + 16 * base::bit_value(s.sspd)
+        + 8 * base::bit_value(s.dplr)
+        + 2 * base::bit_value(s.keyb)
+        + base::bit_value(s.disp)
 }
 
 fn display_word(d: Display) -> Encoded
@@ -225,7 +225,7 @@ fn display_word(d: Display) -> Encoded
     if d.limit > MOST_LIMIT {
         return Encoded::Refused(Refusal::Field);
     }
-    Encoded::Word(0b010100000000 + 128 * base::digit_of(d.mode) + 16 * (d.limit as u16))
+    Encoded::Word(0b010100000000 + 128 * base::bit_value(d.mode) + 16 * (d.limit as u16))
 }
 
 fn digit_word(digit: u8, byte: u8) -> Encoded

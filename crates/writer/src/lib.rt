@@ -87,7 +87,7 @@ fn tested_all(n: usize, words: &[u16]) -> Verdict
 fn tested_list(n: usize, words: &[u16]) -> Verdict
     ensures { λ r. ⌜ verdictTells r ≡ R.listTest n (now (words .entry)) ⌝ }
 {
-    if !chain::tests::is_count(n) {
+    if !chain::checks::is_count(n) {
         return Verdict::Refused(Refusal::ChipCount);
     }
     if words.len() % n != 0 {

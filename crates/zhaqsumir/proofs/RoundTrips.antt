@@ -8,9 +8,9 @@ use mathlib.Core.List.{[], _∷_}
 use Prim.Native.Nat.{ℕ, _≤_}
 use native.Mathlib.Omega.{arith}
 use lib.Dec.{T, eqb, leb, leb→le}
-use Rattle.base.specs.Bits.{digit}
+use Rattle.base.specs.Bits.{bitValue}
 use Rattle.base.specs.Refusals.{Told, done}
-use Rattle.base.proofs.Cuts.{digit-lt}
+use Rattle.base.proofs.Cuts.{bit-value-lt}
 use Rattle.base.proofs.Tests.{and-left, and-right, is-true}
 use Rattle.word.specs.declared.Command.{Command}
 use Rattle.word.specs.declared.Command.the-variants.{NoOperation, BarLevel, SegmentClear, SegmentSet, Reset, Sleep, ShiftLeft, ShiftRight, RotateLeft, RotateRight, CustomCharacter, SystemParameters, DisplayParameters, BlinkByte, ReadKey, LoadDigit}
@@ -20,12 +20,12 @@ use Rattle.zhaqsumir.specs.Commands.{numbersOf, commandFrom, commandIn}
 use Rattle.zhaqsumir.specs.Numbers.{alone, encodedBy, encodeNumbers}
 use Rattle.zhaqsumir.proofs.Fields.{fits-in, legal-word}
 
-digit-bit : (b : Bool) → eqb (digit b) 1 ≡ b
-digit-bit true = refl
-digit-bit false = refl
+bit-value-back : (b : Bool) → eqb (bitValue b) 1 ≡ b
+bit-value-back true = refl
+bit-value-back false = refl
 
-digit-most : (b : Bool) → digit b ≤ 1
-digit-most b = omega (arith, digit-lt b)
+bit-value-most : (b : Bool) → bitValue b ≤ 1
+bit-value-most b = omega (arith, bit-value-lt b)
 
 pub numbers-back : (c : Command) → T (legal c) → commandIn (numbersOf c) ≡ done c
 unfolding commandFrom
@@ -41,11 +41,11 @@ numbers-back RotateLeft t = refl
 numbers-back RotateRight t = refl
 numbers-back (CustomCharacter shape) t = sym (fits-in (leb→le shape _ t) refl)
 numbers-back (SystemParameters s) t =
-    sym (fits-in (digit-most (s .intm)) (fits-in (digit-most (s .sspd)) (fits-in (digit-most (s .dplr)) (fits-in (digit-most (s .keyb)) (fits-in (digit-most (s .disp)) refl)))))
-    ∙ (λ i. done (SystemParameters (record { intm = digit-bit (s .intm) i; sspd = digit-bit (s .sspd) i; dplr = digit-bit (s .dplr) i; keyb = digit-bit (s .keyb) i; disp = digit-bit (s .disp) i })))
+    sym (fits-in (bit-value-most (s .intm)) (fits-in (bit-value-most (s .sspd)) (fits-in (bit-value-most (s .dplr)) (fits-in (bit-value-most (s .keyb)) (fits-in (bit-value-most (s .disp)) refl)))))
+    ∙ (λ i. done (SystemParameters (record { intm = bit-value-back (s .intm) i; sspd = bit-value-back (s .sspd) i; dplr = bit-value-back (s .dplr) i; keyb = bit-value-back (s .keyb) i; disp = bit-value-back (s .disp) i })))
 numbers-back (DisplayParameters d) t =
-    sym (fits-in (digit-most (d .mode)) (fits-in (leb→le (d .limit) 7 t) refl))
-    ∙ (λ i. done (DisplayParameters (record { mode = digit-bit (d .mode) i; limit = d .limit })))
+    sym (fits-in (bit-value-most (d .mode)) (fits-in (leb→le (d .limit) 7 t) refl))
+    ∙ (λ i. done (DisplayParameters (record { mode = bit-value-back (d .mode) i; limit = d .limit })))
 numbers-back (BlinkByte byte) t = sym (fits-in (leb→le byte _ t) refl)
 numbers-back ReadKey t = refl
 numbers-back (LoadDigit dig byte) t =

@@ -4,7 +4,7 @@ use Prim.Native.Nat.{ℕ}
 use mathlib.Core.List.{List, [], _∷_}
 use lib.Dec.{eqb, leb}
 use lib.ListN.{getD}
-use Rattle.base.specs.Bits.{digit}
+use Rattle.base.specs.Bits.{bitValue}
 use Rattle.base.specs.Pick.{pick}
 use Rattle.base.specs.Refusals.{Told, done, refused}
 use Rattle.word.specs.Ranges.{mostOf}
@@ -30,8 +30,8 @@ numbersOf ShiftRight = six 7 0 0 0 0 0
 numbersOf RotateLeft = six 8 0 0 0 0 0
 numbersOf RotateRight = six 9 0 0 0 0 0
 numbersOf (CustomCharacter shape) = six 10 shape 0 0 0 0
-numbersOf (SystemParameters s) = six 11 (digit (s .intm)) (digit (s .sspd)) (digit (s .dplr)) (digit (s .keyb)) (digit (s .disp))
-numbersOf (DisplayParameters d) = six 12 (digit (d .mode)) (d .limit) 0 0 0
+numbersOf (SystemParameters s) = six 11 (bitValue (s .intm)) (bitValue (s .sspd)) (bitValue (s .dplr)) (bitValue (s .keyb)) (bitValue (s .disp))
+numbersOf (DisplayParameters d) = six 12 (bitValue (d .mode)) (d .limit) 0 0 0
 numbersOf (BlinkByte byte) = six 13 byte 0 0 0 0
 numbersOf ReadKey = six 14 0 0 0 0 0
 numbersOf (LoadDigit dig byte) = six 15 dig byte 0 0 0

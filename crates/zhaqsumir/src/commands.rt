@@ -5,7 +5,7 @@ use word::System;
 ghost use mathlib.Core.Path.{_≡_};
 ghost use Prim.Native.Nat.{_%_};
 ghost use mathlib.Core.List.{_∷_};
-ghost use Rattle.base.specs.Bits.{digit};
+ghost use Rattle.base.specs.Bits.{bitValue};
 ghost use Rattle.base.specs.Refusals.{done};
 ghost use Rattle.zhaqsumir.specs.Commands as C;
 
@@ -17,9 +17,9 @@ pub(crate) enum Given {
 
 // The number of a bit: 1 or 0.
 fn bit(b: bool) -> u64
-    ensures { λ r. ⌜ r ≡ digit b ⌝ }
+    ensures { λ r. ⌜ r ≡ bitValue b ⌝ }
 {
-    base::digit_of(b) as u64
+    base::bit_value(b) as u64
 }
 
 // The answer of a word that means a command: no refusal, its kind, from 0 in document 01's order, and five fields.

@@ -4,7 +4,7 @@ use mathlib.Core.Path.{ap, ap₂, sym, _∙_}
 use borrow.Author.Tests.{lt-ltb, le-ltb}
 use Rattle.base.specs.Refusals.{done}
 use Rattle.base.proofs.Picks.{pick-yes, pick-no}
-use Rattle.chip.specs.Scans.{Recording, Took}
+use Rattle.chip.specs.Scans.{Recording, ScanLeaves}
 use Rattle.chain.specs.declared.Chain.{Chain}
 use Rattle.chain.specs.Entries as E
 use Rattle.chain.proofs.Tested.{by-done, by-refusal}
@@ -24,7 +24,7 @@ returns-3 : tie.Need-returns-3
 unfolding E.scannedOf
 returns-3 c =
     let s = c .before .before .scan-chip .ensures in
-    ap₂ (λ (ch : Chain) (what : Recording). record { state = ch; told = done what }) (s .0) (ap (λ (t : Took). t .recorded) (s .1 .1))
+    ap₂ (λ (ch : Chain) (what : Recording). record { state = ch; told = done what }) (s .0) (ap (λ (t : ScanLeaves). t .recorded) (s .1 .1))
     ∙ sym (by-done _ _ (c .before .before .before .before .before .before .tested .ensures) (c .before .before .before .before .enum-told .given .1) ∙ pick-yes _ _ (lt-ltb _ _ (c .before .before .before .if1 .left)))
 
 pub scan-spec : {M : Type 1} → statement M

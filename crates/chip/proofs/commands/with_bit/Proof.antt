@@ -8,7 +8,7 @@ use native.Mathlib.Omega.{arith}
 use lib.Dec.{eqb, lit<}
 use borrow.Author.Tests.{eq-eqb, ne-eqb}
 use Rattle.base.specs.Pick.{pick}
-use Rattle.base.specs.Bits.{cut, bit, digit}
+use Rattle.base.specs.Bits.{cut, bit, bitValue}
 use Rattle.base.proofs.Cuts.{power-kept}
 use Rattle.base.proofs.Picks.{pick-yes, pick-no}
 use Rattle.base.specs.Bits.{byteOf}
@@ -30,11 +30,11 @@ raised c =
     ap (λ (x : ℕ). a .byte + x) (power-kept 16 (a .seg) (omega arith))
     ∙ sym
     (bit-made (a .on) (a .seg) (a .byte) (c .before .before .before .before .pre) (c .before .before .before .before .fits .byte .fits)
-    ∙ pick-no _ _ (ne-eqb (cut (a .byte) (a .seg) 1) (digit (a .on)) (λ e. c .before .if1 .left (c .before .before .before .field .ensures ∙ e ∙ sym (c .before .before .digit-of .ensures))))
+    ∙ pick-no _ _ (ne-eqb (cut (a .byte) (a .seg) 1) (bitValue (a .on)) (λ e. c .before .if1 .left (c .before .before .before .field .ensures ∙ e ∙ sym (c .before .before .bit-value .ensures))))
     ∙ pick-yes _ _ (c .if2 .taken))
 
-unlike : (c : tie.Else2) → cut (c .before .before .before .before .args .byte) (c .before .before .before .before .args .seg) 1 ≡ digit (c .before .before .before .before .args .on) → ⊥
-unlike c e = c .before .if1 .left (c .before .before .before .field .ensures ∙ e ∙ sym (c .before .before .digit-of .ensures))
+unlike : (c : tie.Else2) → cut (c .before .before .before .before .args .byte) (c .before .before .before .before .args .seg) 1 ≡ bitValue (c .before .before .before .before .args .on) → ⊥
+unlike c e = c .before .if1 .left (c .before .before .before .field .ensures ∙ e ∙ sym (c .before .before .bit-value .ensures))
 
 lowered : (c : tie.Else2) → c .before .before .before .before .args .byte - 1 * 2 ^ c .before .before .before .before .args .seg % 65536 ≡ byteOf (bits-else c)
 lowered c =
@@ -42,7 +42,7 @@ lowered c =
     ap (λ (x : ℕ). a .byte - x) (power-kept 16 (a .seg) (omega arith))
     ∙ sym
     (bit-made (a .on) (a .seg) (a .byte) (c .before .before .before .before .pre) (c .before .before .before .before .fits .byte .fits)
-    ∙ pick-no _ _ (ne-eqb (cut (a .byte) (a .seg) 1) (digit (a .on)) (unlike c))
+    ∙ pick-no _ _ (ne-eqb (cut (a .byte) (a .seg) 1) (bitValue (a .on)) (unlike c))
     ∙ pick-no _ _ (c .if2 .left))
 
 returns : tie.Need-returns
@@ -50,7 +50,7 @@ returns c =
     let a = c .before .before .before .args in
     sym
     (bit-made (a .on) (a .seg) (a .byte) (c .before .before .before .pre) (c .before .before .before .fits .byte .fits)
-    ∙ pick-yes _ _ (eq-eqb _ _ (sym (c .before .before .field .ensures) ∙ c .if1 .taken ∙ c .before .digit-of .ensures)))
+    ∙ pick-yes _ _ (eq-eqb _ _ (sym (c .before .before .field .ensures) ∙ c .if1 .taken ∙ c .before .bit-value .ensures)))
 
 add-result : tie.Need-add-result
 add-result c = record { fits = lt-trans (subst (λ (x : ℕ). x < 256) (sym (raised c)) (byte-below (bits-then c))) (lit< tt) }
@@ -65,7 +65,7 @@ sub-result : tie.Need-sub-result
 sub-result c =
     let a = c .before .before .before .before .args in
     subst (λ (x : ℕ). x ≤ a .byte) (sym (power-kept 16 (a .seg) (omega arith)))
-    (bit-at-most (a .byte) (a .seg) (λ e. unlike c (e ∙ ap digit (sym (c .if2 .left)))))
+    (bit-at-most (a .byte) (a .seg) (λ e. unlike c (e ∙ ap bitValue (sym (c .if2 .left)))))
 
 cast-result-2 : tie.Need-cast-result-2
 cast-result-2 c = record { fits = subst (λ (x : ℕ). x < 256) (sym (lowered c)) (byte-below (bits-else c)) }

@@ -7,7 +7,7 @@ use native.Mathlib.Nat.{sub-zero}
 use native.Mathlib.Omega.{arith}
 use borrow.Author.Tests.{eq-eqb, ne-eqb}
 use Rattle.base.specs.Pick.{pick}
-use Rattle.base.specs.Bits.{cut, bit, digit}
+use Rattle.base.specs.Bits.{cut, bit, bitValue}
 use Rattle.base.proofs.Picks.{pick-yes, pick-no}
 use Rattle.chip.specs.Scans.{newKey, bothNone, codeOf, released, keyed}
 use Rattle.chip.specs.declared.Keys.{Keys}
@@ -51,7 +51,7 @@ returns-4 c =
     let e = sym (c .before .before .before .before .before .before .before .before .is-new-key .ensures) ∙ c .before .before .before .before .before .before .before .if1 .left in
     let n : bothNone (a .r) (a .keys) ≡ true = simp (eq-eqb (a .r) 64 (c .before .before .before .before .before .before .if2 .left), eq-eqb (a .keys .last) 64 (c .before .before .before .before .if3 .left)) in
     let set : bit (a .keys .code) 6 ≡ true = eq-eqb (cut (a .keys .code) 6 1) 1 (sym (c .before .before .field .ensures) ∙ c .before .if4 .taken) in
-    kept (a .r) (a .keys) (ap (λ (t : Bool). a .keys .code - 64 * digit t) (sym set) ∙ sym (pick-no _ _ e ∙ pick-yes _ _ n)) (sym (pick-no _ _ e))
+    kept (a .r) (a .keys) (ap (λ (t : Bool). a .keys .code - 64 * bitValue t) (sym set) ∙ sym (pick-no _ _ e ∙ pick-yes _ _ n)) (sym (pick-no _ _ e))
 
 returns-5 : tie.Need-returns-5
 returns-5 c =
@@ -60,7 +60,7 @@ returns-5 c =
     let n : bothNone (a .r) (a .keys) ≡ true = simp (eq-eqb (a .r) 64 (c .before .before .before .before .before .if2 .left), eq-eqb (a .keys .last) 64 (c .before .before .before .if3 .left)) in
     let clear : bit (a .keys .code) 6 ≡ false = ne-eqb (cut (a .keys .code) 6 1) 1 (λ q. c .if4 .left (c .before .field .ensures ∙ q)) in
     kept (a .r) (a .keys)
-    (sym (sub-zero (a .keys .code)) ∙ ap (λ (t : Bool). a .keys .code - 64 * digit t) (sym clear) ∙ sym (pick-no _ _ e ∙ pick-yes _ _ n))
+    (sym (sub-zero (a .keys .code)) ∙ ap (λ (t : Bool). a .keys .code - 64 * bitValue t) (sym clear) ∙ sym (pick-no _ _ e ∙ pick-yes _ _ n))
     (sym (pick-no _ _ e))
 
 pub keyed-spec : {M : Type 1} → statement M

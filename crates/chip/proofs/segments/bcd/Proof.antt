@@ -6,7 +6,7 @@ use Prim.Native.Nat.{ℕ, _+_, _*_, _<_}
 use native.Mathlib.Nat.{add-zero}
 use native.Mathlib.Omega.{arith}
 use borrow.Author.Tests.{eq-eqb, ne-eqb}
-use Rattle.base.specs.Bits.{cut, bit, digit}
+use Rattle.base.specs.Bits.{cut, bit, bitValue}
 use Rattle.chip.specs.Segments.{shape}
 use Rattle.chip.proofs.Shapes.{shape-lt}
 use borrow.Author.Needs.{needs}
@@ -27,7 +27,7 @@ returns c =
     let a = c .before .before .before .before .args in
     let set : bit (a .byte) 7 ≡ true = eq-eqb (cut (a .byte) 7 1) 1 (sym (c .before .field2 .ensures) ∙ c .if1 .taken) in
     ap (λ (x : ℕ). x + 128) (c .before .before .shape .ensures ∙ ap (shape (a .custom)) (c .before .before .before .field .ensures))
-    ∙ ap (λ (t : Bool). shape (a .custom) (cut (a .byte) 0 5) + 128 * digit t) (sym set)
+    ∙ ap (λ (t : Bool). shape (a .custom) (cut (a .byte) 0 5) + 128 * bitValue t) (sym set)
 
 returns-2 : tie.Need-returns-2
 unfolding Rattle.chip.specs.Segments.bcd
@@ -36,7 +36,7 @@ returns-2 c =
     let clear : bit (a .byte) 7 ≡ false = ne-eqb (cut (a .byte) 7 1) 1 (λ q. c .if1 .left (c .before .field2 .ensures ∙ q)) in
     c .before .before .shape .ensures ∙ ap (shape (a .custom)) (c .before .before .before .field .ensures)
     ∙ sym (add-zero (shape (a .custom) (cut (a .byte) 0 5)))
-    ∙ ap (λ (t : Bool). shape (a .custom) (cut (a .byte) 0 5) + 128 * digit t) (sym clear)
+    ∙ ap (λ (t : Bool). shape (a .custom) (cut (a .byte) 0 5) + 128 * bitValue t) (sym clear)
 
 pub bcd-spec : {M : Type 1} → statement M
 bcd-spec =

@@ -1,11 +1,11 @@
--- `chain::tests::tested` meets its contract: its tests are the definition's.
+-- `chain::checks::tested` meets its contract: its tests are the definition's.
 -- Assumes nothing.
 use mathlib.Core.Path.{sym, _∙_}
 use borrow.Author.Tests.{not-true, not-false}
 use Rattle.base.proofs.Picks.{pick-yes, pick-no}
 use borrow.Author.Needs.{needs}
-use Rattle.chain.proofs.tests.tested.Statement.{statement}
-use Rattle.chain.proofs.tests.tested.Tie as tie
+use Rattle.chain.proofs.checks.tested.Statement.{statement}
+use Rattle.chain.proofs.checks.tested.Tie as tie
 
 returns : tie.Need-returns
 unfolding Rattle.chain.specs.Chain.testedOf

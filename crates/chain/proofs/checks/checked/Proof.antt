@@ -1,4 +1,4 @@
--- `chain::tests::checked` meets its contract. The invariant: what the test says of the rest it says of the whole.
+-- `chain::checks::checked` meets its contract. The invariant: what the test says of the rest it says of the whole.
 -- Assumes nothing.
 use mathlib.Core.Path.{_≡_, refl, sym, _∙_}
 use Prim.Native.Nat.{_-_, _≤_}
@@ -8,8 +8,8 @@ use Rattle.base.proofs.Picks.{pick-yes, pick-no}
 use Rattle.chain.specs.Chain.{checkedFrom}
 use Rattle.chain.proofs.Rest.{check-more, check-over}
 use borrow.Author.Needs.{needs}
-use Rattle.chain.proofs.tests.checked.Statement.{statement}
-use Rattle.chain.proofs.tests.checked.Tie as tie
+use Rattle.chain.proofs.checks.checked.Statement.{statement}
+use Rattle.chain.proofs.checks.checked.Tie as tie
 
 abbrev Inv-loop : tie.InvT-loop
 Inv-loop samples i₀ i = (i ≤ length samples) × (checkedFrom i (drop i samples) ≡ checkedFrom 0 samples)

@@ -1,4 +1,4 @@
--- `chain::tests::is_valid` meets its contract. The invariant: what the test says of the rest it says of the whole.
+-- `chain::checks::is_valid` meets its contract. The invariant: what the test says of the rest it says of the whole.
 -- Assumes nothing.
 use mathlib.Core.Path.{_≡_, ap, sym, _∙_}
 use mathlib.Core.Bool.{Bool, _&&_}
@@ -12,8 +12,8 @@ use Rattle.base.proofs.Lists.{length-mapped}
 use Rattle.chain.specs.Chain.{allValid}
 use Rattle.chain.proofs.Rest.{all-more, all-over, all-past}
 use borrow.Author.Needs.{needs}
-use Rattle.chain.proofs.tests.is_valid.Statement.{statement}
-use Rattle.chain.proofs.tests.is_valid.Tie as tie
+use Rattle.chain.proofs.checks.is_valid.Statement.{statement}
+use Rattle.chain.proofs.checks.is_valid.Tie as tie
 
 abbrev Inv-loop : tie.InvT-loop
 Inv-loop n chain chips k₀ k = (k ≤ n) × (allValid (n - k) (drop k chips) ≡ allValid n chips)
