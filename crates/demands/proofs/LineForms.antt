@@ -13,7 +13,7 @@ use lib.ListN.{length}
 use Rattle.base.specs.Pick.{pick}
 use Rattle.base.specs.Refusals.{Told, IsDone, done, refused}
 use Rattle.base.proofs.Tests.{by-order, by-equality}
-use Rattle.chain.specs.Chain.{chipCount, checkedFrom}
+use Rattle.chain.specs.Chain.{most, chipCount, checkedFrom}
 use Rattle.base.specs.Below.{AllBelow}
 use Rattle.chain.proofs.Laws.{checked-below, below-checked}
 use Rattle.lines.specs.Lines.{Line, ended, bytesIn, asHex}
