@@ -1,4 +1,5 @@
--- What this crate's functions answer: how far a line goes on, the bytes that a frame holds, and a line put where it fits.
+-- What this crate's functions answer: how far a line goes on, the bytes that a frame holds, and a line put where it fits. No entry's
+-- promise cites these.
 -- Assumes nothing.
 use mathlib.Core.Path.{_≡_}
 use Prim.Native.Nat.{ℕ, suc, _+_}
