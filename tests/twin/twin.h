@@ -1,6 +1,6 @@
 /* The plain twin: the panel in plain C, written from document 01 and not from the proved code, to be compared with it in what it does
- * and in its speed. Here is what a program over it may use. The twin itself is one source, twin.c, in parts with the names of the
- * document's chapters.
+ * and in its speed. Here is what a program over it may use. The twin itself is one source, twin.c, in parts that are each headed by the
+ * name of a chapter of the document.
  *
  * The functions named twin_ take and answer what those of include/zhaqsumir.h do: an answer is an array of numbers, first the number
  * of a refusal or 0, then the place that it names or 0. */
