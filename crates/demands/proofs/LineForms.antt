@@ -84,7 +84,7 @@ below-more : (a b : ℕ) (xs : List ℕ) → a ≤ b → AllBelow a xs → AllBe
 below-more a b [] h y = tt
 below-more a b (x ∷ xs) h y = let l : x < a = y .0 in (omega arith, below-more a b xs h (y .1))
 
-module _ (n : ℕ) (few : n ≤ 8) (l : Line) where
+module _ (n : ℕ) (few : n ≤ most) (l : Line) where
   samples-bytes : (y : SamplesLine l) → bytesIn l ≡ 0x01 ∷ y .0
   samples-bytes y = ap bytesIn (y .4) ∙ in-written (0x01 ∷ y .0) (omega arith, below-more 8 256 (y .0) (omega arith) (y .3))
 

@@ -7,6 +7,7 @@ use native.Mathlib.Omega.{arith}
 use lib.ListN.{length}
 use Rattle.base.proofs.Lent.{Fills, fills-start}
 use Rattle.base.proofs.Lists.{length-mapped}
+use Rattle.chain.specs.Chain.{most}
 use Rattle.capture.proofs.Reported.{risesLeft, left-room, left-more, left-over}
 use borrow.Author.Needs.{needs}
 use Rattle.capture.proofs.reports.rise.Statement.{statement}
@@ -26,21 +27,21 @@ loop-holds c =
 rise-line-requires : tie.Need-rise-line-requires Inv-loop μ-loop
 rise-line-requires c κs =
     let a = c .before .before .before .before .before .before .args in
-    let eight : length (a .chain .chips) ≡ 8 = search (needs, length-mapped) in
+    let all : length (a .chain .chips) ≡ most = search (needs, length-mapped) in
     let room = c .before .before .before .before .before .before .pre .1 in
     left-room (a .what) (a .n) (a .chain .chips) (a .at) (a .out .now) (omega arith) room (c .before .before .before .loop .inv .1) _ (c .before .before .loop-test .taken)
 
 loop-again : tie.Need-loop-again Inv-loop μ-loop
 loop-again c =
     let a = c .before .before .before .before .before .before .before .before .before .args in
-    let eight : length (a .chain .chips) ≡ 8 = search (needs, length-mapped) in
+    let all : length (a .chain .chips) ≡ most = search (needs, length-mapped) in
     let room = c .before .before .before .before .before .before .before .before .before .pre .1 in
     (search needs, left-more (a .what) (a .n) (a .chain .chips) (a .at) (a .out .now) (omega arith) room (c .before .before .before .before .before .before .loop .inv .1) _ (c .before .before .before .before .before .loop-test .taken) (c .before .before .rise-line .ensures))
 
 returns : tie.Need-returns Inv-loop μ-loop
 returns c =
     let a = c .before .before .before .before .args in
-    let eight : length (a .chain .chips) ≡ 8 = search (needs, length-mapped) in
+    let all : length (a .chain .chips) ≡ most = search (needs, length-mapped) in
     left-over (a .what) (a .n) (a .chain .chips) (a .at) (a .out .now) (omega arith) (c .before .before .before .before .pre .1) (c .before .loop .inv .1) (c .loop-test .left)
 
 pub rise-spec : {M : Type 1} → statement M

@@ -9,7 +9,7 @@ use borrow.Author.Tests.{not-true, not-false}
 use lib.Dec.{leb}
 use lib.ListN.{length, drop}
 use Rattle.base.proofs.Lists.{length-mapped}
-use Rattle.chain.specs.Chain.{allValid}
+use Rattle.chain.specs.Chain.{most, allValid}
 use Rattle.chain.proofs.Rest.{all-more, all-over, all-past}
 use borrow.Author.Needs.{needs}
 use Rattle.chain.proofs.checks.is_valid.Statement.{statement}
@@ -30,7 +30,7 @@ returns : tie.Need-returns Inv-loop μ-loop
 returns c =
     let k = c .before .before .before .loop .k in
     let a = c .before .before .before .before .before .args in
-    let eight : length (a .chain .chips) ≡ 8 = search (needs, length-mapped) in
+    let all : length (a .chain .chips) ≡ most = search (needs, length-mapped) in
     sym
     (ap (λ (t : Bool). t && leb (a .chain .levels) 7)
     (sym (c .before .before .before .loop .inv .1) ∙ all-past (a .n) k (a .chain .chips) (c .before .before .loop-test .taken) (omega arith)))
@@ -39,7 +39,7 @@ returns-2 : tie.Need-returns-2 Inv-loop μ-loop
 returns-2 c =
     let k = c .before .before .before .before .before .loop .k in
     let a = c .before .before .before .before .before .before .before .args in
-    let eight : length (a .chain .chips) ≡ 8 = search (needs, length-mapped) in
+    let all : length (a .chain .chips) ≡ most = search (needs, length-mapped) in
     sym
     (ap (λ (t : Bool). t && leb (a .chain .levels) 7)
     (sym (c .before .before .before .before .before .loop .inv .1)
@@ -51,7 +51,7 @@ loop-again : tie.Need-loop-again Inv-loop μ-loop
 loop-again c =
     let k = c .before .before .before .before .before .loop .k in
     let a = c .before .before .before .before .before .before .before .args in
-    let eight : length (a .chain .chips) ≡ 8 = search (needs, length-mapped) in (
+    let all : length (a .chain .chips) ≡ most = search (needs, length-mapped) in (
       search needs,
       sym
           (all-more (a .n) k (a .chain .chips) _ (c .before .before .before .before .loop-test .taken) (omega arith)

@@ -9,7 +9,7 @@ use native.Mathlib.Omega.{arith}
 use lib.ListN.{length, take, drop, length-set}
 use Rattle.base.proofs.Lists.{length-mapped}
 use Rattle.chip.specs.declared.Chip.{Chip}
-use Rattle.chain.specs.Chain.{steppedRow}
+use Rattle.chain.specs.Chain.{most, steppedRow}
 use Rattle.chain.proofs.Rest.{row-more, row-over}
 use borrow.Author.Needs.{needs}
 use Rattle.chain.proofs.play.stepped.Statement.{statement}
@@ -17,7 +17,7 @@ use Rattle.chain.proofs.play.stepped.Tie as tie
 
 abbrev Inv-loop : tie.InvT-loop
 Inv-loop n sample was next₀ d₀ k₀ next d k =
-    (k ≤ n) × (length (next .chips) ≡ 8) × (take k (next .chips) ++ steppedRow (n - k) was sample d (drop k (next .chips)) ≡ steppedRow n was sample d₀ (next₀ .chips))
+    (k ≤ n) × (length (next .chips) ≡ most) × (take k (next .chips) ++ steppedRow (n - k) was sample d (drop k (next .chips)) ≡ steppedRow n was sample d₀ (next₀ .chips))
 
 abbrev μ-loop : tie.MeasureT-loop
 μ-loop n sample was next₀ d₀ k₀ next d k = n - k

@@ -12,7 +12,7 @@ use Rattle.base.proofs.Picks.{pick-yes}
 use Rattle.chip.specs.declared.Chip.{Chip}
 use Rattle.chip.specs.Commands as C
 use Rattle.chip.specs.Edges.{din}
-use Rattle.chain.specs.Chain.{steppedRow}
+use Rattle.chain.specs.Chain.{most, steppedRow}
 use Rattle.chain.specs.Stretch.{stretchFrom}
 use Rattle.chain.proofs.Rest.{row-more, row-over}
 use Rattle.chain.proofs.Steps.{withLatch, withLatchAlone, withLeft, two-stores, stepped-rise, stepped-fall, row-any, row-still}
@@ -40,20 +40,20 @@ none =
 
 abbrev Inv-loop2 : tie.InvT-loop2
 Inv-loop2 n samples from next₀ i s was d₀ k₀ next d k =
-    (k ≤ n) × (length (next .chips) ≡ 8) × (take k (next .chips) ++ steppedRow (n - k) was s d (drop k (next .chips)) ≡ steppedRow n was s d₀ (next₀ .chips)) × (next .levels ≡ s)
+    (k ≤ n) × (length (next .chips) ≡ most) × (take k (next .chips) ++ steppedRow (n - k) was s d (drop k (next .chips)) ≡ steppedRow n was s d₀ (next₀ .chips)) × (next .levels ≡ s)
 
 abbrev μ-loop2 : tie.MeasureT-loop2
 μ-loop2 n samples from next₀ i s was d₀ k₀ next d k = n - k
 
 abbrev Inv-loop3 : tie.InvT-loop3
 Inv-loop3 n samples from next₀ i s was k₀ next k =
-    (k ≤ n) × (length (next .chips) ≡ 8) × ((b : Bool) → take k (next .chips) ++ steppedRow (n - k) was s b (drop k (next .chips)) ≡ steppedRow n was s b (next₀ .chips)) × (next .levels ≡ s)
+    (k ≤ n) × (length (next .chips) ≡ most) × ((b : Bool) → take k (next .chips) ++ steppedRow (n - k) was s b (drop k (next .chips)) ≡ steppedRow n was s b (next₀ .chips)) × (next .levels ≡ s)
 
 abbrev μ-loop3 : tie.MeasureT-loop3
 μ-loop3 n samples from next₀ i s was k₀ next k = n - k
 
 abbrev Inv-loop : tie.InvT-loop
-Inv-loop n samples from next₀ i₀ next i = (length (next .chips) ≡ 8) × (stretchFrom n i (drop i samples) next ≡ stretchFrom n from (drop from samples) next₀)
+Inv-loop n samples from next₀ i₀ next i = (length (next .chips) ≡ most) × (stretchFrom n i (drop i samples) next ≡ stretchFrom n from (drop from samples) next₀)
 
 abbrev μ-loop : tie.MeasureT-loop
 μ-loop n samples from next₀ i₀ next i = length samples - i
