@@ -43,7 +43,8 @@ enum {
 #define ZHAQSUMIR_MOST_ROWS 64
 #define ZHAQSUMIR_ROW_SAMPLES(n) (24ul * (n) + 2ul)     /* the samples of a row for n chips */
 #define ZHAQSUMIR_MOST_TEXT 65536ul                     /* the bytes of a capture text, at most */
-#define ZHAQSUMIR_REPLAY_ROOM 1179661ul                 /* the bytes that a replay is lent; no text writes more */
+/* the bytes that a replay is lent */
+#define ZHAQSUMIR_REPLAY_ROOM (ZHAQSUMIR_MOST_CHIPS / 4 * 9 * ZHAQSUMIR_MOST_TEXT + 13)
 
 /* The refusals, as document 01 numbers them. */
 enum {
@@ -150,13 +151,15 @@ void zhaqsumir_find(unsigned char levels, const unsigned char *samples, unsigned
  * digits a byte and nothing between, each ended by 0AH, the last too. The first line is 00 01 N. Every other line is 01 and 1 to 32
  * samples, or 02, a chip below N and 8 scan bytes; byte d, bit s is the contact of DIG d and SEG s. The chips start as reset, the
  * wires idle.
- * out: 1,179,661 bytes (ZHAQSUMIR_REPLAY_ROOM), too many for most stacks. Lines of the same kind are written from its front: for
- * each LOAD rise and chip from 0 up 10, chip, word (two bytes, high first); for each recorded key 11, chip, code; at a refusal 1F,
- * number, line (four bytes, high first), and no more. The rest of out keeps what it holds; no byte 0 is set after the last line.
+ * out: ZHAQSUMIR_REPLAY_ROOM bytes, 1,179,661: too many for most stacks, and no text writes more. Lines of the same kind are
+ * written from its front: for each LOAD rise and chip from 0 up 10, chip, word (two bytes, high first); for each recorded key 11,
+ * chip, code; at a refusal 1F, number, line (four bytes, high first), and no more. The rest of out keeps what it holds; no byte 0
+ * is set after the last line.
  * answer: the refusal that the text ended in, or 0; the number of the refused line from 1, or 0; the bytes written.
  * Refused: LONG_TEXT (11), with no line number, and out holds the line 1F0B00000000 alone. BAD_LINE (10), with the line number, and
  * out holds what the lines before it wrote and then 1F0A and that number. The bytes written count the refusal's line too. */
-void zhaqsumir_replay(const unsigned char *text, unsigned long length, unsigned char out[1179661], unsigned long answer[3]);
+void zhaqsumir_replay(const unsigned char *text, unsigned long length, unsigned char out[ZHAQSUMIR_REPLAY_ROOM],
+                      unsigned long answer[3]);
 
 #ifdef __cplusplus
 }

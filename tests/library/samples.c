@@ -97,7 +97,7 @@ static unsigned long place_in(unsigned long count)
 
 static unsigned long list(unsigned long n, unsigned short words[MOST_WORDS])
 {
-    unsigned long width = n >= 1 && n <= 8 ? n : 1 + below(8);
+    unsigned long width = n >= 1 && n <= MOST ? n : 1 + below(MOST);
     unsigned long count = rows() * width, wrong = once_in(2) ? 0 : 1 + below(3), i;
 
     if (once_in(10))
@@ -136,7 +136,7 @@ static void write_one(void)
 {
     static unsigned short words[MOST_WORDS];
     unsigned long n = chips(), count = list(n, words);
-    unsigned long samples = count * 24 + (n >= 1 && n <= 8 ? count / n * 2 : 0), room, before = faults;
+    unsigned long samples = count * 24 + (n >= 1 && n <= MOST ? count / n * 2 : 0), room, before = faults;
     const unsigned short *lent = put_up(&lists, words, count * sizeof words[0]);
     const unsigned long *want = to_twin(&answers);
 
