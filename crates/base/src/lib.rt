@@ -1,5 +1,5 @@
-// The ground floor: the refusals that document 01 numbers, and the one leaf that cuts fields of numbers by shifts and
-// masks. The two functions are inner ones, for the other crates; users have no entry here. Nothing here has a `requires`.
+// The ground floor: the refusals that document 01 numbers, with number and place of each, and the one leaf that cuts fields of
+// numbers by shifts and masks. The functions are inner ones, for the other crates; users have no entry here. Nothing here has a `requires`.
 ghost use mathlib.Core.Path.{_≡_};
 ghost use Rattle.base.specs.Bits.{cut, bitValue};
 ghost use Rattle.base.specs.Refusals.{numberOf, placeOf};
