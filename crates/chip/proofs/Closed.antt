@@ -1,38 +1,22 @@
--- The search for the smallest closed address, a contact at a time.
---     first-step      the next contact decides, or the search goes on after it
---     first-over      with no contact left the address past them is the answer
+-- The smallest closed address.
 --     result-le       a scan's result is at most 64
 --     result-closed   below 64 it is a closed address
 --     result-first    and no address below it is closed
+--     result-is       a closed address with none closed below it is the result
+--     result-none     where no address is closed the result is none
 --     wakes-closed    where a scan wakes a chip that is asleep, a contact on SEG0 to SEG3 is closed
 --     closed-wakes    and where one is closed, the scan wakes it
 -- Assumes nothing.
-use mathlib.Core.Path.{_≡_, refl, ap, sym, _∙_}
+use mathlib.Core.Path.{_≡_, ap, sym, _∙_}
 use mathlib.Core.Bool.{true, false, false≢true}
 use mathlib.Core.List.{List}
-use Prim.Native.Nat.{ℕ, zero, suc, _+_, _-_, _/_, _≤_, _<_}
+use Prim.Native.Nat.{ℕ, zero, suc, _+_, _/_, _≤_, _<_}
 use native.Mathlib.Omega.{arith}
-use native.Mathlib.Nat.{le-trans}
-use native.Mathlib.Numerals.{add-one}
+use native.Mathlib.Nat.{le-trans, le-antisymm, lt-trans}
 use lib.Dec.{T, ltb→lt, lt→ltb}
-use Rattle.base.specs.Pick.{pick}
 use Rattle.base.proofs.Picks.{pick-cases}
 use Rattle.base.proofs.Tests.{by-order, by-equality}
 use Rattle.chip.specs.Scans.{closed, firstClosed, result, wakes}
-
-pub first-step : (n addr : ℕ) (bytes : List ℕ) → addr < n
-    → firstClosed bytes (n - addr) addr ≡ pick (closed bytes addr) addr (firstClosed bytes (n - (addr + 1)) (addr + 1))
-first-step n addr bytes h = ap (λ k. firstClosed bytes k addr) more ∙ unrolled ∙ ap (λ a. pick (closed bytes addr) addr (firstClosed bytes (n - (addr + 1)) a)) (sym (add-one addr))
-  where
-    more : n - addr ≡ suc (n - (addr + 1))
-    more = omega arith
-
-    unrolled : firstClosed bytes (suc (n - (addr + 1))) addr ≡ pick (closed bytes addr) addr (firstClosed bytes (n - (addr + 1)) (suc addr))
-    unrolled = unfold firstClosed in refl
-
-pub first-over : (bytes : List ℕ) (addr : ℕ) → firstClosed bytes 0 addr ≡ addr
-unfolding firstClosed
-first-over bytes addr = refl
 
 first-le : (bytes : List ℕ) (more addr : ℕ) → firstClosed bytes more addr ≤ addr + more
 unfolding firstClosed
@@ -64,6 +48,17 @@ first-first bytes (suc more) addr a from =
 pub result-first : (bytes : List ℕ) (a : ℕ) → a < result bytes → closed bytes a ≡ false
 unfolding result
 result-first bytes a = first-first bytes 64 0 a (omega arith)
+
+pub result-is : (bytes : List ℕ) (a : ℕ) → a < 64 → closed bytes a ≡ true → ((b : ℕ) → b < a → closed bytes b ≡ false) → result bytes ≡ a
+result-is bytes a h on first =
+    by-order (result bytes) a
+    (λ le.
+    by-order a (result bytes) (λ ge. le-antisymm le ge) (λ lt. absurd (false≢true (sym (first (result bytes) lt) ∙ result-closed bytes (lt-trans lt h)))))
+    (λ gt. absurd (false≢true (sym (result-first bytes a gt) ∙ on)))
+
+pub result-none : (bytes : List ℕ) → ((b : ℕ) → b < 64 → closed bytes b ≡ false) → result bytes ≡ 64
+result-none bytes off =
+    by-order 64 (result bytes) (λ ge. le-antisymm (result-le bytes) ge) (λ lt. absurd (false≢true (sym (off (result bytes) lt) ∙ result-closed bytes lt)))
 
 pub wakes-closed : (bytes : List ℕ) → T (wakes (result bytes)) → (result bytes / 8 < 4) × (closed bytes (result bytes) ≡ true)
 wakes-closed bytes t = let h = ltb→lt (result bytes) 32 t in (omega arith, result-closed bytes (omega arith))

@@ -1,4 +1,6 @@
 pub mod Closed
+mod Masks
+mod Rows
 pub mod Digits
 pub mod Shapes
 pub mod Valid

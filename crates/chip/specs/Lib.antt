@@ -3,6 +3,7 @@ pub mod Commands
 pub mod Edges
 pub mod Segments
 pub mod Scans
+pub mod Masks
 pub mod History
 pub mod Cases
 pub mod Entries

@@ -4,30 +4,67 @@ use crate::Keys;
 use crate::NONE;
 use crate::Recorded;
 ghost use mathlib.Core.Path.{_≡_};
-ghost use Prim.Native.Nat.{_≤_};
+ghost use Prim.Native.Nat.{_≤_, _<_};
+ghost use lib.Count.{trailingZeros};
+ghost use Rattle.chip.specs.Masks as M;
 ghost use Rattle.chip.specs.Scans as S;
 
-// Whether the contact of an address is closed: the low three bits are the byte, the others the bit.
-fn is_closed(bytes: [u8; 8], addr: u8) -> bool
-    ensures { λ r. ⌜ r ≡ S.closed bytes addr ⌝ }
+// The contacts as one number: bit 8·DIG + SEG, a byte for each DIG.
+fn packed(bytes: [u8; 8]) -> u64
+    ensures { λ r. ⌜ M.Packs bytes r ⌝ }
 {
-    let wide = addr as u16;
-    let dig = base::field(wide, 0, 3) as usize;
-    base::field(bytes[dig] as u16, base::field(wide, 3, 5), 1) == 1
+    (bytes[0] as u64)
+        | ((bytes[1] as u64) << 8)
+        | ((bytes[2] as u64) << 16)
+        | ((bytes[3] as u64) << 24)
+        | ((bytes[4] as u64) << 32)
+        | ((bytes[5] as u64) << 40)
+        | ((bytes[6] as u64) << 48)
+        | ((bytes[7] as u64) << 56)
 }
 
-// The smallest closed address, or NONE.
+// The SEGs with a contact closed, bit s for SEG s: the eight bytes laid over each other.
+fn closed_segs(contacts: u64) -> u8
+    ensures { λ r. ⌜ r ≡ M.closedSegs contacts ⌝ }
+{
+    let two = contacts | (contacts >> 8);
+    let four = two | (two >> 16);
+    let eight = four | (four >> 32);
+    (eight & 255) as u8
+}
+
+// The row of a SEG, bit d for DIG d: a mask keeps its bit of each byte, and the eight are moved together.
+fn row(contacts: u64, seg: u8) -> u8
+    requires { ⌜ seg < 8 ⌝ }
+    ensures { λ r. ⌜ r ≡ M.rowOf contacts seg ⌝ }
+{
+    let kept = (contacts >> seg) & 0x0101010101010101;
+    let two = kept | (kept >> 7);
+    let four = two | (two >> 14);
+    let eight = four | (four >> 28);
+    (eight & 255) as u8
+}
+
+// The place of the lowest bit that is set in a mask.
+fn lowest(mask: u8) -> u8
+    requires { ⌜ (mask ≡ 0 → ⊥) ⌝ }
+    ensures { λ r. ⌜ r ≡ trailingZeros 8 mask ⌝ }
+{
+    u8::trailing_zeros(mask) as u8
+}
+
+// The smallest closed address, or NONE: of the lowest SEG with a contact the lowest DIG.
 fn result(bytes: [u8; 8]) -> u8
     ensures { λ r. ⌜ r ≡ S.result bytes ⌝ }
 {
-    let mut addr: u8 = 0;
-    while addr < NONE {
-        if is_closed(bytes, addr) {
-            return addr;
-        }
-        addr += 1;
+    let contacts = packed(bytes);
+    let segs = closed_segs(contacts);
+    if segs == 0 {
+        return NONE;
     }
-    NONE
+    let seg = lowest(segs);
+    let dig = lowest(row(contacts, seg));
+    8 * seg + dig
 }
 
 // Result and last scan are the same address, and its code isn't held already.

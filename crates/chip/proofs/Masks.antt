@@ -1,0 +1,212 @@
+-- Bits of masks, and their trailing zeros.
+--     or-bit          a bit of an OR
+--     and-bit         a bit of an AND
+--     shr-bit         a bit of a number that was shifted down
+--     byte-bit        a bit of a byte made of bits
+--     byte-of-bit     a bit of one of a number's bytes
+--     low-byte        the low eight bits of a number, by what they are
+--     any-same        one of eight bits is set, whatever they are called
+--     gathered-bit    a number laid three times over itself has eight of its bits in one place
+--     any-set         one of eight bits is set exactly where the byte made of them isn't 0
+--     only-one        of eight bits of which all but one are masked out, that one is left
+--     mask-bit        the mask of a row, moved down by 7 a byte, has the bit of each byte at that byte's place
+--     lowest-set      trailing zeros, over all masks of eight bits: that bit is set, and none below it
+-- Assumes nothing.
+use mathlib.Core.Path.{_≡_, refl, ap, ap₂, sym, subst, _∙_}
+use mathlib.Core.Bool.{Bool, true, false, not, _&&_, _||_}
+use Prim.Native.Nat.{ℕ, _+_, _*_, _/_, _%_, _^_, _<_}
+use native.Mathlib.Nat.{mod-lt, lt-of-le-of-lt}
+use native.Mathlib.Omega.{arith}
+use lib.Dec.{T, eqb, ltb, ltb→lt, lit<}
+use borrow.Author.Tests.{ne-eqb, not-true}
+use lib.Bits.{bitAnd, bitOr, and-shr, and-mod, or-shr, or-mod, and-le-r, and-mask}
+use lib.Count.{trailingZeros}
+use lib.Pow.{shr-shr}
+use Rattle.base.specs.Bits.{cut, bit, bitValue, byteOf}
+use Rattle.base.specs.Below.{below, EachBelow}
+use Rattle.base.proofs.Bytes.{byte-back, byte-same, byte-below}
+use Rattle.base.proofs.Cuts.{bit-value-lt}
+use Rattle.base.proofs.Tests.{is-true, and-left, and-right, at-below, each-below}
+
+-- ---- bits of numbers
+
+-- a bit of what is done bit by bit
+bit-by-bit : (op : ℕ → ℕ → ℕ) (f : Bool → Bool → Bool) → ((a b k : ℕ) → op a b / 2 ^ k ≡ op (a / 2 ^ k) (b / 2 ^ k))
+    → ((a b k : ℕ) → op a b % 2 ^ k ≡ op (a % 2 ^ k) (b % 2 ^ k))
+    → EachBelow (λ p. EachBelow (λ q. eqb (op p q) 1 ≡ f (eqb p 1) (eqb q 1)) 2) 2
+    → (a b k : ℕ) → bit (op a b) k ≡ f (bit a k) (bit b k)
+bit-by-bit op f shr rem two a b k =
+    ap (λ x. eqb (x % 2) 1) (shr a b k)
+    ∙ ap (λ x. eqb x 1) (rem (a / 2 ^ k) (b / 2 ^ k) 1)
+    ∙ each-below (λ q. eqb (op (a / 2 ^ k % 2) q) 1 ≡ f (eqb (a / 2 ^ k % 2) 1) (eqb q 1)) 2
+    (each-below (λ p. EachBelow (λ q. eqb (op p q) 1 ≡ f (eqb p 1) (eqb q 1)) 2) 2 two (a / 2 ^ k % 2) (mod-lt (a / 2 ^ k) (lit< tt)))
+    (b / 2 ^ k % 2)
+    (mod-lt (b / 2 ^ k) (lit< tt))
+
+pub or-bit : (a b k : ℕ) → bit (bitOr a b) k ≡ (bit a k || bit b k)
+or-bit = bit-by-bit bitOr _||_ or-shr or-mod ((refl, (refl, tt)), ((refl, (refl, tt)), tt))
+
+-- the mask's bit first
+pub and-bit : (n mask k : ℕ) → bit (bitAnd n mask) k ≡ (bit mask k && bit n k)
+and-bit = bit-by-bit bitAnd (λ p q. q && p) and-shr and-mod ((refl, (refl, tt)), ((refl, (refl, tt)), tt))
+
+pub shr-bit : (n by k : ℕ) → bit (n / 2 ^ by) k ≡ bit n (by + k)
+shr-bit n by k = ap (λ x. eqb (x % 2) 1) (shr-shr n by k)
+
+-- a bit of a byte made of bits
+pub byte-bit : (f : ℕ → Bool) (s : ℕ) → s < 8 → bit (byteOf f) s ≡ f s
+byte-bit f =
+    let a = bit-value-lt (f 0) in
+    let b = bit-value-lt (f 1) in
+    let c = bit-value-lt (f 2) in
+    let d = bit-value-lt (f 3) in
+    let e = bit-value-lt (f 4) in
+    let g = bit-value-lt (f 5) in
+    let h = bit-value-lt (f 6) in
+    let i = bit-value-lt (f 7) in
+    each-below (λ s. bit (byteOf f) s ≡ f s) 8 (
+      told 7 (omega arith),
+      (
+        told 6 (omega arith),
+        (
+          told 5 (omega arith),
+          (
+            told 4 (omega arith),
+            (told 3 (omega arith), (told 2 (omega arith), (told 1 (omega arith), (told 0 (omega arith), tt)))),
+          ),
+        ),
+      ),
+    )
+  where
+    is-one : (b : Bool) → eqb (bitValue b) 1 ≡ b
+    is-one true = refl
+    is-one false = refl
+
+    told : (s : ℕ) → byteOf f / 2 ^ s % 2 ≡ bitValue (f s) → bit (byteOf f) s ≡ f s
+    told s e = ap (λ x. eqb x 1) e ∙ is-one (f s)
+
+-- the mask of eight bits keeps each of them
+ones : (s : ℕ) → s < 8 → bit 255 s ≡ true
+ones s h = is-true (bit 255 s) (at-below (bit 255) 8 tt s h)
+
+low-bit : (n s : ℕ) → s < 8 → bit (bitAnd n 255) s ≡ bit n s
+low-bit n s h = and-bit n 255 s ∙ ap (λ t. t && bit n s) (ones s h)
+
+-- a bit of one of a number's bytes
+pub byte-of-bit : (n d s : ℕ) → s < 8 → bit (cut n (8 * d) 8) s ≡ bit n (8 * d + s)
+byte-of-bit n d s h = ap (λ x. bit x s) (sym (and-mask (n / 2 ^ (8 * d)) 8)) ∙ low-bit (n / 2 ^ (8 * d)) s h ∙ shr-bit n (8 * d) s
+
+-- the low eight bits of a number, by what they are
+pub low-byte : (n : ℕ) (f : ℕ → Bool) → ((s : ℕ) → s < 8 → bit n s ≡ f s) → bitAnd n 255 ≡ byteOf f
+low-byte n f e =
+    sym (byte-back (bitAnd n 255) (lt-of-le-of-lt (and-le-r n 255) (lit< tt)))
+    ∙ byte-same (bit (bitAnd n 255)) f (λ s h. low-bit n s h ∙ e s h)
+
+-- ---- eight bits at once
+
+-- one of the eight
+abbrev pub any : (ℕ → Bool) → Bool
+any f = ((f 0 || f 1) || (f 2 || f 3)) || ((f 4 || f 5) || (f 6 || f 7))
+
+pub any-same : (f g : ℕ → Bool) → ((e : ℕ) → e < 8 → f e ≡ g e) → any f ≡ any g
+any-same f g h = λ i.
+    ((h 0 (lit< tt) i || h 1 (lit< tt) i) || (h 2 (lit< tt) i || h 3 (lit< tt) i))
+    || ((h 4 (lit< tt) i || h 5 (lit< tt) i) || (h 6 (lit< tt) i || h 7 (lit< tt) i))
+
+-- a number laid over itself, shifted down
+abbrev over : ℕ → ℕ → ℕ
+over by n = bitOr n (n / 2 ^ by)
+
+-- three times, each time shifted twice as far
+abbrev pub gathered : ℕ → ℕ → ℕ
+gathered by n = over (4 * by) (over (2 * by) (over by n))
+
+over-bit : (by n k : ℕ) → bit (over by n) k ≡ (bit n k || bit n (by + k))
+over-bit by n k = or-bit n (n / 2 ^ by) k ∙ ap (λ t. bit n k || t) (shr-bit n by k)
+
+pub gathered-bit : (by n k : ℕ) → bit (gathered by n) k ≡ any (λ e. bit n (by * e + k))
+gathered-bit by n k =
+    over-bit (4 * by) (over (2 * by) (over by n)) k
+    ∙ ap₂ _||_ (half k) (half (4 * by + k))
+    ∙ λ i.
+    ((at 0 k (omega arith) i || at 1 (by + k) (omega arith) i)
+    || (at 2 (2 * by + k) (omega arith) i || at 3 (by + (2 * by + k)) (omega arith) i))
+    || ((at 4 (4 * by + k) (omega arith) i || at 5 (by + (4 * by + k)) (omega arith) i)
+    || (at 6 (2 * by + (4 * by + k)) (omega arith) i || at 7 (by + (2 * by + (4 * by + k))) (omega arith) i))
+  where
+    half : (j : ℕ) → bit (over (2 * by) (over by n)) j ≡ ((bit n j || bit n (by + j)) || (bit n (2 * by + j) || bit n (by + (2 * by + j))))
+    half j = over-bit (2 * by) (over by n) j ∙ ap₂ _||_ (over-bit by n j) (over-bit by n (2 * by + j))
+
+    at : (e j : ℕ) → j ≡ by * e + k → bit n j ≡ bit n (by * e + k)
+    at e j h = ap (bit n) h
+
+-- a test that tells two truth values apart
+abbrev alike : Bool → Bool → Bool
+alike true b = b
+alike false b = not b
+
+alike-same : (a b : Bool) → T (alike a b) → a ≡ b
+alike-same true true t = refl
+alike-same true false t = absurd t
+alike-same false true t = absurd t
+alike-same false false t = refl
+
+pub any-set : (f : ℕ → Bool) → any f ≡ not (eqb (byteOf f) 0)
+any-set f =
+    sym (any-same (bit (byteOf f)) f (byte-bit f))
+    ∙ alike-same (any (bit (byteOf f))) (not (eqb (byteOf f) 0)) (at-below (λ m. alike (any (bit m)) (not (eqb m 0))) 256 tt (byteOf f) (byte-below f))
+
+-- the others masked out
+pub only-one : (f : ℕ → Bool) (d : ℕ) → d < 8 → any (λ e. eqb e d && f e) ≡ f d
+only-one f =
+    each-below (λ d. any (λ e. eqb e d && f e) ≡ f d) 8 (
+      left (λ b. any (λ e. eqb e 7 && b)) refl refl (f 7),
+      (
+        left (λ b. any (λ e. eqb e 6 && b)) refl refl (f 6),
+        (
+          left (λ b. any (λ e. eqb e 5 && b)) refl refl (f 5),
+          (
+            left (λ b. any (λ e. eqb e 4 && b)) refl refl (f 4),
+            (
+              left (λ b. any (λ e. eqb e 3 && b)) refl refl (f 3),
+              (
+                left (λ b. any (λ e. eqb e 2 && b)) refl refl (f 2),
+                (left (λ b. any (λ e. eqb e 1 && b)) refl refl (f 1), (left (λ b. any (λ e. eqb e 0 && b)) refl refl (f 0), tt)),
+              ),
+            ),
+          ),
+        ),
+      ),
+    )
+  where
+    left : (E : Bool → Bool) → E true ≡ true → E false ≡ false → (b : Bool) → E b ≡ b
+    left E on off true = on
+    left E on off false = off
+
+-- the mask of a row has a bit of each byte: moved down by 7 a byte, each comes to the place of its byte
+pub mask-bit : (e d : ℕ) → e < 8 → d < 8 → bit 0x0101010101010101 (7 * e + d) ≡ eqb e d
+mask-bit e d h l =
+    alike-same (bit 0x0101010101010101 (7 * e + d)) (eqb e d)
+    (at-below (λ j. alike (bit 0x0101010101010101 (7 * e + j)) (eqb e j)) 8 (at-below (λ i. below (λ j. alike (bit 0x0101010101010101 (7 * i + j)) (eqb i j)) 8) 8 tt e h) d l)
+
+-- ---- trailing zeros
+
+-- that bit is set, and none below it
+abbrev isLowest : ℕ → ℕ → Bool
+isLowest mask place = ltb place 8 && bit mask place && below (λ j. not (bit mask j)) place
+
+-- over all masks of eight bits at once
+lowest-tested : (mask : ℕ) → mask < 256 → T (eqb mask 0 || isLowest mask (trailingZeros 8 mask))
+unfolding trailingZeros
+lowest-tested = at-below (λ mask. eqb mask 0 || isLowest mask (trailingZeros 8 mask)) 256 tt
+
+pub lowest-set : (mask : ℕ) → mask < 256 → (mask ≡ 0 → ⊥)
+    → (trailingZeros 8 mask < 8) × (bit mask (trailingZeros 8 mask) ≡ true) × ((j : ℕ) → j < trailingZeros 8 mask → bit mask j ≡ false)
+lowest-set mask h some =
+    let place = trailingZeros 8 mask in
+    let all : T (isLowest mask place) = subst (λ t. T (t || isLowest mask place)) (ne-eqb mask 0 some) (lowest-tested mask h) in
+    let two = and-left (ltb place 8 && bit mask place) (below (λ j. not (bit mask j)) place) all in (
+      ltb→lt place 8 (and-left (ltb place 8) (bit mask place) two),
+      is-true (bit mask place) (and-right (ltb place 8) (bit mask place) two),
+      λ j l. not-true (bit mask j) (is-true (not (bit mask j)) (at-below (λ m. not (bit mask m)) place (and-right (ltb place 8 && bit mask place) (below (λ m. not (bit mask m)) place) all) j l)),
+    )
