@@ -104,38 +104,38 @@ low-byte n f e =
 
 -- ---- eight bits at once
 
--- one of the eight
+-- one of the eight, in the order in which halves are laid over each other
 abbrev pub any : (ℕ → Bool) → Bool
-any f = ((f 0 || f 1) || (f 2 || f 3)) || ((f 4 || f 5) || (f 6 || f 7))
+any f = ((f 0 || f 4) || (f 2 || f 6)) || ((f 1 || f 5) || (f 3 || f 7))
 
 pub any-same : (f g : ℕ → Bool) → ((e : ℕ) → e < 8 → f e ≡ g e) → any f ≡ any g
 any-same f g h = λ i.
-    ((h 0 (lit< tt) i || h 1 (lit< tt) i) || (h 2 (lit< tt) i || h 3 (lit< tt) i))
-    || ((h 4 (lit< tt) i || h 5 (lit< tt) i) || (h 6 (lit< tt) i || h 7 (lit< tt) i))
+    ((h 0 (lit< tt) i || h 4 (lit< tt) i) || (h 2 (lit< tt) i || h 6 (lit< tt) i))
+    || ((h 1 (lit< tt) i || h 5 (lit< tt) i) || (h 3 (lit< tt) i || h 7 (lit< tt) i))
 
 -- a number laid over itself, shifted down
 abbrev over : ℕ → ℕ → ℕ
 over by n = bitOr n (n / 2 ^ by)
 
--- three times, each time shifted twice as far
+-- three times, each time shifted half as far
 abbrev pub gathered : ℕ → ℕ → ℕ
-gathered by n = over (4 * by) (over (2 * by) (over by n))
+gathered by n = over by (over (2 * by) (over (4 * by) n))
 
 over-bit : (by n k : ℕ) → bit (over by n) k ≡ (bit n k || bit n (by + k))
 over-bit by n k = or-bit n (n / 2 ^ by) k ∙ ap (λ t. bit n k || t) (shr-bit n by k)
 
 pub gathered-bit : (by n k : ℕ) → bit (gathered by n) k ≡ any (λ e. bit n (by * e + k))
 gathered-bit by n k =
-    over-bit (4 * by) (over (2 * by) (over by n)) k
-    ∙ ap₂ _||_ (half k) (half (4 * by + k))
+    over-bit by (over (2 * by) (over (4 * by) n)) k
+    ∙ ap₂ _||_ (half k) (half (by + k))
     ∙ λ i.
-    ((at 0 k (omega arith) i || at 1 (by + k) (omega arith) i)
-    || (at 2 (2 * by + k) (omega arith) i || at 3 (by + (2 * by + k)) (omega arith) i))
-    || ((at 4 (4 * by + k) (omega arith) i || at 5 (by + (4 * by + k)) (omega arith) i)
-    || (at 6 (2 * by + (4 * by + k)) (omega arith) i || at 7 (by + (2 * by + (4 * by + k))) (omega arith) i))
+    ((at 0 k (omega arith) i || at 4 (4 * by + k) (omega arith) i)
+    || (at 2 (2 * by + k) (omega arith) i || at 6 (4 * by + (2 * by + k)) (omega arith) i))
+    || ((at 1 (by + k) (omega arith) i || at 5 (4 * by + (by + k)) (omega arith) i)
+    || (at 3 (2 * by + (by + k)) (omega arith) i || at 7 (4 * by + (2 * by + (by + k))) (omega arith) i))
   where
-    half : (j : ℕ) → bit (over (2 * by) (over by n)) j ≡ ((bit n j || bit n (by + j)) || (bit n (2 * by + j) || bit n (by + (2 * by + j))))
-    half j = over-bit (2 * by) (over by n) j ∙ ap₂ _||_ (over-bit by n j) (over-bit by n (2 * by + j))
+    half : (j : ℕ) → bit (over (2 * by) (over (4 * by) n)) j ≡ ((bit n j || bit n (4 * by + j)) || (bit n (2 * by + j) || bit n (4 * by + (2 * by + j))))
+    half j = over-bit (2 * by) (over (4 * by) n) j ∙ ap₂ _||_ (over-bit (4 * by) n j) (over-bit (4 * by) n (2 * by + j))
 
     at : (e j : ℕ) → j ≡ by * e + k → bit n j ≡ bit n (by * e + k)
     at e j h = ap (bit n) h

@@ -27,10 +27,10 @@ fn packed(bytes: [u8; 8]) -> u64
 fn closed_segs(contacts: u64) -> u8
     ensures { λ r. ⌜ r ≡ M.closedSegs contacts ⌝ }
 {
-    let two = contacts | (contacts >> 8);
-    let four = two | (two >> 16);
-    let eight = four | (four >> 32);
-    (eight & 255) as u8
+    let four = contacts | (contacts >> 32);
+    let two = four | (four >> 16);
+    let one = two | (two >> 8);
+    (one & 255) as u8
 }
 
 // The row of a SEG, bit d for DIG d: a mask keeps its bit of each byte, and the eight are moved together.
@@ -39,10 +39,10 @@ fn row(contacts: u64, seg: u8) -> u8
     ensures { λ r. ⌜ r ≡ M.rowOf contacts seg ⌝ }
 {
     let kept = (contacts >> seg) & 0x0101010101010101;
-    let two = kept | (kept >> 7);
-    let four = two | (two >> 14);
-    let eight = four | (four >> 28);
-    (eight & 255) as u8
+    let four = kept | (kept >> 28);
+    let two = four | (four >> 14);
+    let one = two | (two >> 7);
+    (one & 255) as u8
 }
 
 // The place of the lowest bit that is set in a mask.
