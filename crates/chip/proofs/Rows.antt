@@ -1,9 +1,8 @@
 -- The smallest closed address by rows: of the lowest SEG that has a contact, the lowest DIG.
+--     row-closed      a bit of a row is a contact
+--     seg-row         a bit of the SEGs tells whether a row is empty
 --     row-none        no SEG has a contact: no address is closed
---     seg-lt          where some SEG has a contact, the lowest such is below 8
---     row-some        its row isn't empty
---     dig-lt          so that row's lowest DIG is below 8 too
---     row-lowest      and that DIG of that SEG is the result
+--     row-lowest      where some SEG has a contact, the lowest DIG of the lowest such SEG is the result
 -- Assumes nothing.
 use mathlib.Core.Path.{_≡_, refl, ap, sym, _∙_}
 use mathlib.Core.Bool.{true, false, not, false≢true}
@@ -18,7 +17,7 @@ use Rattle.base.specs.Bits.{bit}
 use Rattle.base.proofs.Bytes.{byte-below}
 use Rattle.base.proofs.Cuts.{cut-past}
 use Rattle.base.proofs.Tests.{by-order}
-use Rattle.chip.specs.Masks.{Packs, rowOf, closedSegs}
+use Rattle.chip.specs.Masks.{Packs, rowOf, closedSegs, lowestIn}
 use Rattle.chip.specs.Scans.{closed, result}
 use Rattle.chip.proofs.Closed.{result-is, result-none}
 use Rattle.chip.proofs.Masks.{byte-bit, lowest-set}
@@ -56,6 +55,7 @@ module _ (bytes : List ℕ) (contacts : ℕ) (packs : Packs bytes contacts) wher
       result-none bytes (λ a h. row-open (a / 8) a (omega arith) (ap (λ segs. bit segs (a / 8)) none ∙ zero-bit (a / 8)) refl)
 
   module _ (some : closedSegs contacts ≡ 0 → ⊥) where
+    -- the lowest SEG that has a contact, and the lowest DIG of its row
     abbrev seg : ℕ
     seg = trailingZeros 8 (closedSegs contacts)
 
@@ -65,17 +65,18 @@ module _ (bytes : List ℕ) (contacts : ℕ) (packs : Packs bytes contacts) wher
     lowest-seg : (seg < 8) × (bit (closedSegs contacts) seg ≡ true) × ((j : ℕ) → j < seg → bit (closedSegs contacts) j ≡ false)
     lowest-seg = lowest-set (closedSegs contacts) (byte-below (λ s. not (eqb (rowOf contacts s) 0))) some
 
-    pub seg-lt : seg < 8
+    seg-lt : seg < 8
     seg-lt = lowest-seg .0
 
-    pub row-some : rowOf contacts seg ≡ 0 → ⊥
+    -- the row of a SEG that has a contact isn't empty
+    row-some : rowOf contacts seg ≡ 0 → ⊥
     row-some empty =
         false≢true (sym (seg-row seg seg-lt ∙ ap not (eq-eqb (rowOf contacts seg) 0 empty)) ∙ lowest-seg .1)
 
     lowest-dig : (dig < 8) × (bit (rowOf contacts seg) dig ≡ true) × ((j : ℕ) → j < dig → bit (rowOf contacts seg) j ≡ false)
     lowest-dig = lowest-set (rowOf contacts seg) (byte-below (λ d. bit contacts (8 * d + seg))) row-some
 
-    pub dig-lt : dig < 8
+    dig-lt : dig < 8
     dig-lt = lowest-dig .0
 
     -- no address below is closed: its SEG is a lower one, or its DIG is
@@ -90,7 +91,7 @@ module _ (bytes : List ℕ) (contacts : ℕ) (packs : Packs bytes contacts) wher
         in-row seg b seg-lt same ∙ lowest-dig .2 (b % 8) lower)
         (λ lt. row-open (b / 8) b (lt-trans lt seg-lt) (lowest-seg .2 (b / 8) lt) refl)
 
-    pub row-lowest : result bytes ≡ 8 * seg + dig
+    pub row-lowest : result bytes ≡ lowestIn contacts (closedSegs contacts)
     row-lowest =
         let ls = seg-lt in
         let ld = dig-lt in

@@ -5,6 +5,7 @@ use Prim.Native.Nat.{ℕ, _+_, _*_, _<_}
 use mathlib.Core.Path.{_≡_}
 use mathlib.Core.Bool.{not}
 use mathlib.Core.List.{List}
+use lib.Count.{trailingZeros}
 use lib.Dec.{eqb}
 use Rattle.base.specs.Bits.{bit, byteOf}
 use Rattle.chip.specs.Scans.{closed}
@@ -20,3 +21,7 @@ rowOf contacts seg = byteOf (λ dig. bit contacts (8 * dig + seg))
 -- the SEGs whose row isn't empty, bit s for SEG s
 abbrev pub closedSegs : ℕ → ℕ
 closedSegs contacts = byteOf (λ seg. not (eqb (rowOf contacts seg) 0))
+
+-- the address of the lowest DIG in the row of the lowest SEG of so many
+abbrev pub lowestIn : ℕ → ℕ → ℕ
+lowestIn contacts segs = let seg = trailingZeros 8 segs in 8 * seg + trailingZeros 8 (rowOf contacts seg)

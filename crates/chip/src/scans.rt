@@ -5,7 +5,6 @@ use crate::NONE;
 use crate::Recorded;
 ghost use mathlib.Core.Path.{_≡_};
 ghost use Prim.Native.Nat.{_≤_, _<_};
-ghost use lib.Count.{trailingZeros};
 ghost use Rattle.chip.specs.Masks as M;
 ghost use Rattle.chip.specs.Scans as S;
 
@@ -45,15 +44,17 @@ fn row(contacts: u64, seg: u8) -> u8
     (one & 255) as u8
 }
 
-// The place of the lowest bit that is set in a mask.
-fn lowest(mask: u8) -> u8
-    requires { ⌜ (mask ≡ 0 → ⊥) ⌝ }
-    ensures { λ r. ⌜ r ≡ trailingZeros 8 mask ⌝ }
+// Of the lowest SEG that has a contact the lowest DIG. There is no count before some SEG is known to have one.
+fn lowest(contacts: u64, segs: u8) -> u8
+    requires { ⌜ (segs ≡ 0 → ⊥) ⌝ }
+    ensures { λ r. ⌜ r ≡ M.lowestIn contacts segs ⌝ }
 {
-    u8::trailing_zeros(mask) as u8
+    let seg = u8::trailing_zeros(segs) as u8;
+    let dig = u8::trailing_zeros(row(contacts, seg)) as u8;
+    8 * seg + dig
 }
 
-// The smallest closed address, or NONE: of the lowest SEG with a contact the lowest DIG.
+// The smallest closed address, or NONE.
 fn result(bytes: [u8; 8]) -> u8
     ensures { λ r. ⌜ r ≡ S.result bytes ⌝ }
 {
@@ -62,9 +63,7 @@ fn result(bytes: [u8; 8]) -> u8
     if segs == 0 {
         return NONE;
     }
-    let seg = lowest(segs);
-    let dig = lowest(row(contacts, seg));
-    8 * seg + dig
+    lowest(contacts, segs)
 }
 
 // Result and last scan are the same address, and its code isn't held already.
