@@ -22,7 +22,7 @@ fn packed(bytes: [u8; 8]) -> u64
         | ((bytes[7] as u64) << 56)
 }
 
-// The SEGs with a contact closed, bit s for SEG s: the eight bytes laid over each other.
+// The SEGs with a contact closed, bit s for SEG s: the eight bytes laid over each other, half over half.
 fn closed_segs(contacts: u64) -> u8
     ensures { λ r. ⌜ r ≡ M.closedSegs contacts ⌝ }
 {
@@ -32,7 +32,7 @@ fn closed_segs(contacts: u64) -> u8
     (one & 255) as u8
 }
 
-// The row of a SEG, bit d for DIG d: a mask keeps its bit of each byte, and the eight are moved together.
+// The row of a SEG, bit d for DIG d: a mask keeps its bit of each byte, and the eight are moved together, half to half.
 fn row(contacts: u64, seg: u8) -> u8
     requires { ⌜ seg < 8 ⌝ }
     ensures { λ r. ⌜ r ≡ M.rowOf contacts seg ⌝ }
@@ -44,7 +44,7 @@ fn row(contacts: u64, seg: u8) -> u8
     (one & 255) as u8
 }
 
-// Of the lowest SEG that has a contact the lowest DIG. There is no count before some SEG is known to have one.
+// The lowest DIG of the lowest SEG, as an address. Nothing is counted before some SEG is known to have a contact.
 fn lowest(contacts: u64, segs: u8) -> u8
     requires { ⌜ (segs ≡ 0 → ⊥) ⌝ }
     ensures { λ r. ⌜ r ≡ M.lowestIn contacts segs ⌝ }
