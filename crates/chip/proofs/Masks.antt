@@ -26,7 +26,7 @@ use Rattle.base.specs.Bits.{cut, bit, bitValue, byteOf}
 use Rattle.base.specs.Below.{below, EachBelow}
 use Rattle.base.proofs.Bytes.{byte-back, byte-same, byte-below}
 use Rattle.base.proofs.Cuts.{bit-value-lt}
-use Rattle.base.proofs.Tests.{is-true, and-left, and-right, at-below, each-below}
+use Rattle.base.proofs.Tests.{is-true, and-left, and-right, at-below, each-below, by-equality}
 
 -- ---- bits of numbers
 
@@ -158,30 +158,14 @@ any-set f =
 
 -- the others masked out
 pub only-one : (f : ℕ → Bool) (d : ℕ) → d < 8 → any (λ e. eqb e d && f e) ≡ f d
-only-one f =
-    each-below (λ d. any (λ e. eqb e d && f e) ≡ f d) 8 (
-      left (λ b. any (λ e. eqb e 7 && b)) refl refl (f 7),
-      (
-        left (λ b. any (λ e. eqb e 6 && b)) refl refl (f 6),
-        (
-          left (λ b. any (λ e. eqb e 5 && b)) refl refl (f 5),
-          (
-            left (λ b. any (λ e. eqb e 4 && b)) refl refl (f 4),
-            (
-              left (λ b. any (λ e. eqb e 3 && b)) refl refl (f 3),
-              (
-                left (λ b. any (λ e. eqb e 2 && b)) refl refl (f 2),
-                (left (λ b. any (λ e. eqb e 1 && b)) refl refl (f 1), (left (λ b. any (λ e. eqb e 0 && b)) refl refl (f 0), tt)),
-              ),
-            ),
-          ),
-        ),
-      ),
-    )
+only-one f d h = any-same (λ e. eqb e d && f e) (λ e. eqb e d && f d) (λ e l. masked e) ∙ alone (f d)
   where
-    left : (E : Bool → Bool) → E true ≡ true → E false ≡ false → (b : Bool) → E b ≡ b
-    left E on off true = on
-    left E on off false = off
+    masked : (e : ℕ) → (eqb e d && f e) ≡ (eqb e d && f d)
+    masked e = by-equality e d (λ same. ap (λ x. eqb e d && f x) same) (λ other. let no = ne-eqb e d other in ap (λ t. t && f e) no ∙ sym (ap (λ t. t && f d) no))
+
+    alone : (b : Bool) → any (λ e. eqb e d && b) ≡ b
+    alone true = alike-same (any (λ e. eqb e d && true)) true (at-below (λ k. alike (any (λ e. eqb e k && true)) true) 8 tt d h)
+    alone false = alike-same (any (λ e. eqb e d && false)) false (at-below (λ k. alike (any (λ e. eqb e k && false)) false) 8 tt d h)
 
 -- the mask of a row has a bit of each byte: moved down by 7 a byte, each comes to the place of its byte
 pub mask-bit : (e d : ℕ) → e < 8 → d < 8 → bit 0x0101010101010101 (7 * e + d) ≡ eqb e d
