@@ -78,12 +78,12 @@ byte-bit f =
       ),
     )
   where
-    is-one : (b : Bool) → eqb (bitValue b) 1 ≡ b
-    is-one true = refl
-    is-one false = refl
+    bit-value-back : (b : Bool) → eqb (bitValue b) 1 ≡ b
+    bit-value-back true = refl
+    bit-value-back false = refl
 
     told : (s : ℕ) → byteOf f / 2 ^ s % 2 ≡ bitValue (f s) → bit (byteOf f) s ≡ f s
-    told s e = ap (λ x. eqb x 1) e ∙ is-one (f s)
+    told s e = ap (λ x. eqb x 1) e ∙ bit-value-back (f s)
 
 -- the mask of eight bits keeps each of them
 ones : (s : ℕ) → s < 8 → bit 255 s ≡ true

@@ -22,6 +22,6 @@ rowOf contacts seg = byteOf (λ dig. bit contacts (8 * dig + seg))
 abbrev pub closedSegs : ℕ → ℕ
 closedSegs contacts = byteOf (λ seg. not (eqb (rowOf contacts seg) 0))
 
--- the address of the lowest DIG in the row of the lowest SEG of so many
+-- the lowest of the SEGs of a mask, and the lowest DIG of its row, as an address
 abbrev pub lowestIn : ℕ → ℕ → ℕ
 lowestIn contacts segs = let seg = trailingZeros 8 segs in 8 * seg + trailingZeros 8 (rowOf contacts seg)

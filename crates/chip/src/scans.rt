@@ -22,26 +22,26 @@ fn packed(bytes: [u8; 8]) -> u64
         | ((bytes[7] as u64) << 56)
 }
 
-// The SEGs with a contact closed, bit s for SEG s: the eight bytes laid over each other, half over half.
+// The SEGs with a contact closed, bit s for SEG s: the eight bytes laid over each other, half over half, into four, two and one.
 fn closed_segs(contacts: u64) -> u8
     ensures { λ r. ⌜ r ≡ M.closedSegs contacts ⌝ }
 {
-    let four = contacts | (contacts >> 32);
-    let two = four | (four >> 16);
-    let one = two | (two >> 8);
-    (one & 255) as u8
+    let in_four = contacts | (contacts >> 32);
+    let in_two = in_four | (in_four >> 16);
+    let in_one = in_two | (in_two >> 8);
+    (in_one & 255) as u8
 }
 
-// The row of a SEG, bit d for DIG d: a mask keeps its bit of each byte, and the eight are moved together, half to half.
+// The row of a SEG, bit d for DIG d: a mask keeps its bit of each byte, and the eight are moved together, into four bytes, two and one.
 fn row(contacts: u64, seg: u8) -> u8
     requires { ⌜ seg < 8 ⌝ }
     ensures { λ r. ⌜ r ≡ M.rowOf contacts seg ⌝ }
 {
     let kept = (contacts >> seg) & 0x0101010101010101;
-    let four = kept | (kept >> 28);
-    let two = four | (four >> 14);
-    let one = two | (two >> 7);
-    (one & 255) as u8
+    let in_four = kept | (kept >> 28);
+    let in_two = in_four | (in_four >> 14);
+    let in_one = in_two | (in_two >> 7);
+    (in_one & 255) as u8
 }
 
 // The lowest DIG of the lowest SEG, as an address. Nothing is counted before some SEG is known to have a contact.
