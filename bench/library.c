@@ -109,7 +109,7 @@ static const struct job {
     { "find: 65,536 samples without a rise", find_none },
     { "find: rise by rise through 12,416 written samples", find_rises },
     { "decode: all 4,096 words", decode_all },
-    { "encode: all 3,191 commands", encode_all },
+    { "encode: all 3,254 commands", encode_all },
     { "replay: 64 rows of 8 chips, a rise in 194 samples", replay_rows },
     { "replay: the longest capture, a rise in 2 samples", replay_text },
 };

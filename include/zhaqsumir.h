@@ -69,7 +69,7 @@ enum {
 /* The sixteen kinds of command, and their fields in order. */
 enum {
     ZHAQSUMIR_NO_OPERATION = 0,
-    ZHAQSUMIR_BAR_LEVEL = 1,          /* level 0 to 64 */
+    ZHAQSUMIR_BAR_LEVEL = 1,          /* level 0 to 127; from 64 on all 64 segments are lit */
     ZHAQSUMIR_SEGMENT_CLEAR = 2,      /* address 0 to 63: 8 SEG + DIG */
     ZHAQSUMIR_SEGMENT_SET = 3,        /* address 0 to 63 */
     ZHAQSUMIR_RESET = 4,

@@ -28,11 +28,11 @@ def meaning(word):
     low = word & 0xFF
     if word < 0x100:
         return "no operation"
-    if word <= 0x140:
-        return "bar level %d" % low
-    if 0x180 <= word < 0x1C0:
+    if word < 0x180:
+        return "bar level %d" % low + (" (all 64 segments)" if low >= 64 else "")
+    if word < 0x1C0:
         return "clear segment %02XH (%s)" % (word - 0x180, place_of(word - 0x180))
-    if 0x1C0 <= word < 0x200:
+    if word < 0x200:
         return "set segment %02XH (%s)" % (word - 0x1C0, place_of(word - 0x1C0))
     if word in WHOLE:
         return WHOLE[word]

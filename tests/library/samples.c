@@ -12,13 +12,13 @@ static struct stretch answers, buffers;
 
 static unsigned short listed_word(void)
 {
-    static const unsigned long plain[] = { 0x000, 0x100, 0x140, 0x180, 0x1BF, 0x1C0, 0x1FF, 0x201, 0x202, 0x300, 0x301, 0x302, 0x303,
-                                           0x380, 0x3FF, 0x400, 0x401, 0x500, 0x5F0, 0x600, 0x700, 0x800, 0xA79, 0xFFF };
+    static const unsigned long plain[] = { 0x000, 0x100, 0x140, 0x141, 0x17F, 0x180, 0x1BF, 0x1C0, 0x1FF, 0x201, 0x202, 0x300, 0x301,
+                                           0x302, 0x303, 0x380, 0x3FF, 0x400, 0x401, 0x500, 0x5F0, 0x600, 0x700, 0x800, 0xA79, 0xFFF };
     switch (below(8)) {
     case 0:
-        return (unsigned short)one_of(24, plain);
+        return (unsigned short)one_of(26, plain);
     case 1:
-        return (unsigned short)(0x100 + below(65));
+        return (unsigned short)(0x100 + below(128));
     case 2:
         return (unsigned short)(0x180 + below(128));
     case 3:
@@ -41,15 +41,15 @@ static unsigned short keypad_word(void)
 
 static unsigned short unlisted_word(void)
 {
-    static const unsigned long unlisted[] = { 0x141, 0x17F, 0x200, 0x203, 0x2FF, 0x304, 0x37F, 0x404, 0x406, 0x440, 0x442, 0x480, 0x4FF,
+    static const unsigned long unlisted[] = { 0x200, 0x203, 0x2FF, 0x304, 0x37F, 0x404, 0x406, 0x440, 0x442, 0x480, 0x4FF,
                                               0x501, 0x508, 0x58F, 0x5FF, 0x1000, 0x1402, 0xF000, 0xFFFF };
     switch (below(4)) {
     case 0:
         return (unsigned short)(4096 * (1 + below(15)) + listed_word()); /* listed but for its high bits */
     case 1:
-        return (unsigned short)(0x141 + below(63));
+        return (unsigned short)(0x440 + below(192));
     default:
-        return (unsigned short)one_of(21, unlisted);
+        return (unsigned short)one_of(19, unlisted);
     }
 }
 

@@ -35,7 +35,7 @@ static void decode_all(unsigned long count)
 
     for (i = 0; i < 65536; i++)
         decode_one((unsigned short)i);
-    must(decoded.times[0] == 3191, "the twin doesn't list 3,191 words");
+    must(decoded.times[0] == 3254, "the twin doesn't list 3,254 words");
     for (i = 0; i < count; i++)
         decode_one((unsigned short)(once_in(4) ? any() : below(4096)));
     report(&decoded, refusals, 0);

@@ -20,7 +20,7 @@ static const struct {
     } field[5];
 } table[KINDS] = {
     [NO_OPERATION] = { .word = 0x000 },                                                     /* 0000 xxxxxxxx */
-    [BAR_LEVEL] = { .word = 0x100, .fields = 1, .field = { { 0, 7, 64 } } },                /* 00010 LEVEL(7), 0 to 64 */
+    [BAR_LEVEL] = { .word = 0x100, .fields = 1, .field = { { 0, 7, 127 } } },               /* 00010 LEVEL(7) */
     [SEGMENT_CLEAR] = { .word = 0x180, .fields = 1, .field = { { 0, 6, 63 } } },            /* 000110 ADDR(6) */
     [SEGMENT_SET] = { .word = 0x1C0, .fields = 1, .field = { { 0, 6, 63 } } },              /* 000111 ADDR(6) */
     [RESET] = { .word = 0x201 },                                                            /* 001000000001 */
@@ -57,7 +57,7 @@ static int kind_of(unsigned word)
     case 1:
         if (word & 0x80)
             return word & 0x40 ? SEGMENT_SET : SEGMENT_CLEAR;
-        return field(word, BAR_LEVEL, 0) <= table[BAR_LEVEL].field[0].most ? BAR_LEVEL : UNLISTED;
+        return BAR_LEVEL;
     case 2:
         return word == 0x201 ? RESET : word == 0x202 ? SLEEP : UNLISTED;
     case 3:

@@ -1,4 +1,5 @@
 -- The chip halves of P1 to P12 hold.
+--     at-load        what a LOAD rise does with a word whose meaning is known
 --     chip-cases     every claim of specs/Cases.antt
 -- Assumes nothing.
 use mathlib.Core.Path.{_≡_, refl, ap, ap₂, _∙_}
@@ -25,7 +26,7 @@ use Rattle.chip.proofs.Valid.{valid-facts}
 use Rattle.chip.proofs.OneScan.{two-scans, keyed-twice, released-twice}
 
 -- a part of a chip after a LOAD rise with a word whose meaning is known
-at-load {ℓ} : {A : Type ℓ} (word : ℕ) (o : Told Command) → decodedOf word ≡ o → (part : Chip → A) (c : Chip) → c .line .register ≡ word
+pub at-load {ℓ} : {A : Type ℓ} (word : ℕ) (o : Told Command) → decodedOf word ≡ o → (part : Chip → A) (c : Chip) → c .line .register ≡ word
     → part (loaded c) ≡ part (appliedWord o c)
 unfolding loaded
 at-load word o e part c r = ap (λ (x : Told Command). part (appliedWord x c)) (ap decodedOf r ∙ e)
@@ -118,7 +119,7 @@ chip-cases =
     also refl
     also at-load 0x109 (done (BarLevel 9)) refl digitsOf
     also at-load 0x140 (done (BarLevel 64)) refl digitsOf
-    also at-load 0x141 unlisted refl digitsOf
+    also at-load 0x141 (done (BarLevel 65)) refl digitsOf
     -- P7, P8
     also at-load 0x404 unlisted refl (λ (d : Chip). d)
     also at-load 0x403 (done (SystemParameters (record { intm = false; sspd = false; dplr = false; keyb = true; disp = true }))) refl systemOf

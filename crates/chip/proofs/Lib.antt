@@ -9,4 +9,5 @@ pub mod OneScan
 pub mod Once
 pub mod Again
 pub mod Cases
+pub mod Bars
 pub mod Unique

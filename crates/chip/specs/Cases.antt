@@ -21,6 +21,10 @@ AtLoad word says = (c : Chip) → c .line .register ≡ word → says c (loaded 
 abbrev pub Scanning : (Chip → Type 0) → Type 0
 Scanning says = (c : Chip) → c .settings .sleeping ≡ false → c .settings .system .keyb ≡ true → says c
 
+-- eight digits of FFH
+abbrev pub allLit : List ℕ
+allLit = 0xFF ∷ 0xFF ∷ 0xFF ∷ 0xFF ∷ 0xFF ∷ 0xFF ∷ 0xFF ∷ 0xFF ∷ []
+
 -- the scan bytes of no contact
 abbrev pub noContact : List ℕ
 noContact = 0 ∷ 0 ∷ 0 ∷ 0 ∷ 0 ∷ 0 ∷ 0 ∷ 0 ∷ []
@@ -84,15 +88,15 @@ chipCases =
     ∷ AtLoad 0xA79 (λ c d. d .digits ≡ set (c .digits) 2 0x79)
     -- P3: 1BAH clears DIG2 SEG7, address 3AH; FFH becomes 7FH
     ∷ AtLoad 0x1BA (λ c d. d .digits ≡ segment false 0x3A (c .digits))
-    ∷ (segment false 0x3A (0xFF ∷ 0xFF ∷ 0xFF ∷ 0xFF ∷ 0xFF ∷ 0xFF ∷ 0xFF ∷ 0xFF ∷ []) ≡ 0xFF ∷ 0xFF ∷ 0x7F ∷ 0xFF ∷ 0xFF ∷ 0xFF ∷ 0xFF ∷ 0xFF ∷ [])
+    ∷ (segment false 0x3A allLit ≡ 0xFF ∷ 0xFF ∷ 0x7F ∷ 0xFF ∷ 0xFF ∷ 0xFF ∷ 0xFF ∷ 0xFF ∷ [])
     -- P4: 1C6H sets DIG6 SEG0, address 06H; 00H becomes 01H
     ∷ AtLoad 0x1C6 (λ c d. d .digits ≡ segment true 0x06 (c .digits))
     ∷ (segment true 0x06 blank ≡ 0 ∷ 0 ∷ 0 ∷ 0 ∷ 0 ∷ 0 ∷ 0x01 ∷ 0 ∷ [])
     -- P5: 109H gives DIG0 03H, the others 01H
     ∷ AtLoad 0x109 (λ c d. d .digits ≡ 0x03 ∷ 0x01 ∷ 0x01 ∷ 0x01 ∷ 0x01 ∷ 0x01 ∷ 0x01 ∷ 0x01 ∷ [])
-    -- P6: 140H gives all FFH; 141H changes no digit
-    ∷ AtLoad 0x140 (λ c d. d .digits ≡ 0xFF ∷ 0xFF ∷ 0xFF ∷ 0xFF ∷ 0xFF ∷ 0xFF ∷ 0xFF ∷ 0xFF ∷ [])
-    ∷ AtLoad 0x141 (λ c d. d .digits ≡ c .digits)
+    -- P6: 140H gives all FFH; 141H lights all
+    ∷ AtLoad 0x140 (λ c d. d .digits ≡ allLit)
+    ∷ AtLoad 0x141 (λ c d. d .digits ≡ allLit)
     -- P7: 404H, unlisted, only wakes the chip and ends a readout; 403H turns KEYB and DISP on
     ∷ AtLoad 0x404 (λ c d. d ≡ woken c)
     ∷ AtLoad 0x403 (λ c d. d .settings .system ≡ record { intm = false; sspd = false; dplr = false; keyb = true; disp = true })

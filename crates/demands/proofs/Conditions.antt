@@ -75,7 +75,7 @@ count-tests n = both-tests (leb-tests 1 n) (leb-tests n most)
 
 pub legal-tests : (c : Command) → Tests (OutOfRange c) (legal c)
 legal-tests NoOperation = passed (λ y. y)
-legal-tests (BarLevel level) = leb-tests level 64
+legal-tests (BarLevel level) = leb-tests level 127
 legal-tests (SegmentClear addr) = leb-tests addr 63
 legal-tests (SegmentSet addr) = leb-tests addr 63
 legal-tests Reset = passed (λ y. y)

@@ -49,7 +49,7 @@ ListFits n ws = (NotOneToMost n → ⊥) × (NotMultiple n ws → ⊥) × (MoreT
 -- 9: a command field is out of range
 abbrev pub OutOfRange : Command → Type 0
 OutOfRange NoOperation = ⊥
-OutOfRange (BarLevel level) = 64 < level
+OutOfRange (BarLevel level) = 127 < level
 OutOfRange (SegmentClear addr) = 63 < addr
 OutOfRange (SegmentSet addr) = 63 < addr
 OutOfRange Reset = ⊥

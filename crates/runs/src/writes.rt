@@ -69,7 +69,7 @@ fn lists() {
     let first = [0x403u16, 0x000];
     put(b"KEYB 1 for another chip: ");
     answered(writer::write(2, &first, &mut out));
-    let unlisted = [0x000u16, 0x141];
+    let unlisted = [0x000u16, 0x404];
     put(b"an unlisted word and no room: ");
     answered(writer::write(2, &unlisted, &mut no_room));
     let large = [5000u16, 0x403];

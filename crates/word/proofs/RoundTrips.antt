@@ -2,22 +2,23 @@
 --     command-back      every legal command comes back from its word
 --     word-back         every listed word comes back from its command, but for its x bits
 --     meaning-legal     what a word means is a legal command
---     listed-words      3,191 of the 4,096 words are listed
---     bars-unlisted     bar levels 65 to 127 are unlisted
+--     listed-words      3,254 of the 4,096 words are listed
+--     bar-word          the word of a bar level up to 127, 65 to 127 among them, means that level and no other
+--     bars-end          level 128 is refused, and the word that would be its own is segment clear
 -- Assumes nothing.
 use mathlib.Core.Path.{_≡_, refl, ap, ap₂, sym, subst, _∙_}
 use mathlib.Core.Bool.{Bool, true, false}
 use Prim.Native.Nat.{ℕ, _+_, _≤_}
 use native.Mathlib.Omega.{arith}
-use borrow.Author.Tests.{le-leb, lt-leb, eq-eqb, ne-eqb}
-use lib.Dec.{T, leb, eqb, eqb→eq, leb→le}
+use borrow.Author.Tests.{eq-eqb, ne-eqb}
+use lib.Dec.{T, leb, eqb, eqb→eq, leb→le, le→leb}
 use Rattle.base.specs.Bits.{cut, bitValue}
 use Rattle.base.specs.Below.{below, count}
 use Rattle.base.specs.Refusals.{Told, done, refused}
 use Rattle.base.proofs.Picks.{pick-yes, pick-no}
 use Rattle.base.proofs.Cuts.{bit-value-lt}
 use Rattle.base.proofs.Tests.{at-below, and-left, and-right, by-order}
-use Rattle.word.specs.Words.{decodedOf, wordOf, legal, plain, unlisted}
+use Rattle.word.specs.Words.{decodedOf, encodedOf, wordOf, legal, plain, unlisted}
 use Rattle.word.specs.declared.Command.{Command}
 use Rattle.word.specs.declared.Command.the-variants.{NoOperation, BarLevel, SegmentClear, SegmentSet, Reset, Sleep, ShiftLeft, ShiftRight, RotateLeft, RotateRight, CustomCharacter, SystemParameters, DisplayParameters, BlinkByte, ReadKey, LoadDigit}
 use Rattle.word.specs.declared.System.{System}
@@ -87,9 +88,9 @@ pub command-back : (c : Command) → T (legal c) → decodedOf (wordOf c) ≡ do
 unfolding decodedOf
 command-back NoOperation t = refl
 command-back (BarLevel level) t =
-    let h = leb→le level 64 t in
+    let h = leb→le level 127 t in
     let w = wordOf (BarLevel level) in
-    field-back w 7 level BarLevel (fits-row w 1 tt (omega arith) ∙ pick-yes _ _ (le-leb (cut w 0 7) 64 (omega arith))) (omega arith)
+    field-back w 7 level BarLevel (fits-row w 1 tt (omega arith)) (omega arith)
 command-back (SegmentClear addr) t =
     let h = leb→le addr 63 t in
     let w = wordOf (SegmentClear addr) in
@@ -148,11 +149,13 @@ abbrev pub listed : Told Command → Bool
 listed (done c) = true
 listed (refused number place) = false
 
-pub listed-words : count (λ w. listed (decodedOf w)) 4096 ≡ 3191
+pub listed-words : count (λ w. listed (decodedOf w)) 4096 ≡ 3254
 unfolding decodedOf
 listed-words = refl
 
-pub bars-unlisted : (level : ℕ) → 65 ≤ level → level ≤ 127 → decodedOf (0b000100000000 + level) ≡ unlisted
-bars-unlisted level h l =
-    let w = 0b000100000000 + level in
-    fits-row w 1 tt (omega arith) ∙ pick-no _ _ (lt-leb (cut w 0 7) 64 (omega arith))
+pub bar-word : (level : ℕ) → level ≤ 127 → decodedOf (0b000100000000 + level) ≡ done (BarLevel level)
+bar-word level h = command-back (BarLevel level) (le→leb level 127 h)
+
+pub bars-end : (encodedOf (BarLevel 128) ≡ refused 9 0) × (decodedOf (0b000100000000 + 128) ≡ done (SegmentClear 0))
+unfolding encodedOf decodedOf
+bars-end = (refl, refl)

@@ -19,9 +19,9 @@ wordCases =
     ∷ (decodedOf 0x1C6 ≡ done (SegmentSet 0x06))
     -- P5: 109H is bar level 9
     ∷ (decodedOf 0x109 ≡ done (BarLevel 9))
-    -- P6: 140H is bar level 64; 141H is unlisted
+    -- P6: 140H is bar level 64; 141H is bar level 65
     ∷ (decodedOf 0x140 ≡ done (BarLevel 64))
-    ∷ (decodedOf 0x141 ≡ refused 6 0)
+    ∷ (decodedOf 0x141 ≡ done (BarLevel 65))
     -- P7: 404H is unlisted; 403H is listed
     ∷ (decodedOf 0x404 ≡ refused 6 0)
     ∷ (decodedOf 0x403 ≡ done (SystemParameters (record { intm = false; sspd = false; dplr = false; keyb = true; disp = true })))

@@ -12,7 +12,7 @@ ranges =
     -- 0: no operation
     []
     -- 1: bar level
-    ∷ (64 ∷ [])
+    ∷ (127 ∷ [])
     -- 2, 3: segment clear, segment set
     ∷ (63 ∷ [])
     ∷ (63 ∷ [])

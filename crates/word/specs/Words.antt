@@ -38,7 +38,7 @@ displayBits w = pick (eqb (cut w 0 4) 0) (done (DisplayParameters (record { mode
 abbrev pub table : List Row
 table =
     row 0b0000 8 (λ w. done NoOperation)
-    ∷ row 0b00010 7 (λ w. pick (leb (cut w 0 7) (mostOf 1 0)) (done (BarLevel (cut w 0 7))) unlisted)
+    ∷ row 0b00010 7 (λ w. done (BarLevel (cut w 0 7)))
     ∷ row 0b000110 6 (λ w. done (SegmentClear (cut w 0 6)))
     ∷ row 0b000111 6 (λ w. done (SegmentSet (cut w 0 6)))
     ∷ row 0b001000000001 0 (λ w. done Reset)

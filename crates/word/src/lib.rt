@@ -11,7 +11,7 @@ ghost use Rattle.word.specs.Words.{decodedOf, encodedOf, wordOf, legal};
 ghost use Rattle.word.specs.Answers.{decodedTells, encodedTells};
 
 // The most of each field that has a range narrower than its type: a bar level, a segment's address, a custom character, LIMIT, DIG.
-pub const MOST_LEVEL: u8 = 64;
+pub const MOST_LEVEL: u8 = 127;
 
 pub const MOST_ADDRESS: u8 = 63;
 
@@ -96,11 +96,7 @@ fn bar_or_segment(word: u16) -> Decoded
     ensures { λ r. ⌜ decodedTells r ≡ decodedOf word ⌝ }
 {
     if base::field(word, 7, 1) == 0 {
-        let level = base::field(word, 0, 7) as u8;
-        if level > MOST_LEVEL {
-            return Decoded::Refused(Refusal::Unlisted(0));
-        }
-        return Decoded::Means(Command::BarLevel(level));
+        return Decoded::Means(Command::BarLevel(base::field(word, 0, 7) as u8));
     }
     let addr = base::field(word, 0, 6) as u8;
     if base::field(word, 6, 1) == 0 {
