@@ -80,7 +80,7 @@ fn blocks() {
     put(b"a command to chip 8 of 8: ");
     answered(chain::one::apply(8, ch, 8, Command::NoOperation));
     put(b"a command out of range: ");
-    answered(chain::one::apply(8, ch, 8, Command::BarLevel(65)));
+    answered(chain::one::apply(8, ch, 8, Command::BarLevel(128)));
 }
 
 // What a scan answers, as a verdict.

@@ -97,7 +97,7 @@ module _ (a b c d e : ℕ) where
                             (
                               one-field 63 a (SegmentClear a) refl,
                               (
-                                one-field 64 a (BarLevel a) refl,
+                                one-field 127 a (BarLevel a) refl,
                                 (tells-word NoOperation refl, tt),
                               ),
                             ),
