@@ -69,6 +69,9 @@ fn lists() {
     let first = [0x403u16, 0x000];
     put(b"KEYB 1 for another chip: ");
     answered(writer::write(2, &first, &mut out));
+    let full = [0x141u16, 0x17F];
+    put(b"bar levels 65 and 127: ");
+    answered(writer::write(2, &full, &mut out));
     let unlisted = [0x000u16, 0x404];
     put(b"an unlisted word and no room: ");
     answered(writer::write(2, &unlisted, &mut no_room));
