@@ -1,12 +1,13 @@
 -- Bytes by their bits, over all bytes and all eight bits at once.
 --     byte-below      a byte made of bits is below 256
+--     byte-bit        each of its eight bits is the one that it was made of
 --     byte-same       bytes whose eight bits agree are the same
 --     byte-back       a byte is made of its own bits
 --     bar-byte        the byte of a digit under a bar, by the number of its lit segments
 --     bit-at-most     a byte with a bit set is at least that power of two
 --     bit-made        a byte with one bit made on or off, by a sum or a difference
 -- Assumes nothing.
-use mathlib.Core.Path.{_≡_, ap}
+use mathlib.Core.Path.{_≡_, ap, _∙_}
 use mathlib.Core.Bool.{Bool, true, false}
 use Prim.Native.Nat.{ℕ, _+_, _-_, _*_, _/_, _%_, _^_, _≤_, _<_}
 use native.Mathlib.Nat.{div-eq-of-lt}
@@ -14,12 +15,13 @@ use native.Mathlib.Omega.{arith}
 use lib.Dec.{T, eqb, leb, ltb, lit<}
 use Rattle.base.specs.Pick.{pick}
 use Rattle.base.specs.Bits.{cut, bit, bitValue, byteOf}
-use Rattle.base.specs.Below.{below}
-use Rattle.base.proofs.Cuts.{bit-value-lt}
-use Rattle.base.proofs.Tests.{at-below, eq-below, by-order}
+use Rattle.base.specs.Below.{below, EachBelow}
+use Rattle.base.proofs.Cuts.{bit-value-lt, bit-value-back}
+use Rattle.base.proofs.Tests.{at-below, eq-below, each-below, by-order}
 
-pub byte-below : (f : ℕ → Bool) → byteOf f < 256
-byte-below f =
+-- a byte made of bits, by the numbers of its bits
+byte-is : (f : ℕ → Bool) → (byteOf f < 256) × EachBelow (λ s. cut (byteOf f) s 1 ≡ bitValue (f s)) 8
+byte-is f =
     let a = bit-value-lt (f 0) in
     let b = bit-value-lt (f 1) in
     let c = bit-value-lt (f 2) in
@@ -27,8 +29,16 @@ byte-below f =
     let e = bit-value-lt (f 4) in
     let g = bit-value-lt (f 5) in
     let h = bit-value-lt (f 6) in
-    let i = bit-value-lt (f 7) in
-    omega arith
+    let i = bit-value-lt (f 7) in (
+      omega arith,
+      (omega arith, (omega arith, (omega arith, (omega arith, (omega arith, (omega arith, (omega arith, (omega arith, tt)))))))),
+    )
+
+pub byte-below : (f : ℕ → Bool) → byteOf f < 256
+byte-below f = byte-is f .0
+
+pub byte-bit : (f : ℕ → Bool) (s : ℕ) → s < 8 → bit (byteOf f) s ≡ f s
+byte-bit f s h = ap (λ x. eqb x 1) (each-below (λ k. cut (byteOf f) k 1 ≡ bitValue (f k)) 8 (byte-is f .1) s h) ∙ bit-value-back (f s)
 
 -- bytes whose eight bits agree
 pub byte-same : (f g : ℕ → Bool) → ((s : ℕ) → s < 8 → f s ≡ g s) → byteOf f ≡ byteOf g

@@ -1,10 +1,11 @@
--- Laws of `cut`: what a field is at the ends of a number, how small it is, and that a mask is a remainder.
+-- Laws of `cut`: what a field is at the ends of a number, how small it is, and that a mask is a remainder; of a bit as a number.
 -- Assumes nothing.
-use mathlib.Core.Path.{_≡_, ap, sym, _∙_}
+use mathlib.Core.Path.{_≡_, refl, ap, sym, _∙_}
 use mathlib.Core.Bool.{Bool, true, false}
 use Prim.Native.Nat.{ℕ, _+_, _-_, _*_, _/_, _%_, _^_, _≤_, _<_}
 use native.Mathlib.Nat.{lt-of-lt-of-le, lt-of-le-of-lt, div-eq-of-lt, div-le-self, mod-eq-of-lt, mod-lt, zero-mod, one-mul, div-one}
 use native.Mathlib.Omega.{arith}
+use lib.Dec.{eqb}
 use lib.Pow.{pow-pos, pow-mono, pow-lt, split, shr-shr}
 use lib.Bits.{bitAnd, and-mask}
 use Rattle.base.specs.Bits.{cut, bitValue}
@@ -43,3 +44,8 @@ masked w m width h = ap (λ x. bitAnd m (x - 1)) (power-kept w width h) ∙ and-
 pub bit-value-lt : (b : Bool) → bitValue b < 2
 bit-value-lt true = omega arith
 bit-value-lt false = omega arith
+
+-- and a bit is read back from it
+pub bit-value-back : (b : Bool) → eqb (bitValue b) 1 ≡ b
+bit-value-back true = refl
+bit-value-back false = refl

@@ -2,6 +2,7 @@ pub mod Picks
 pub mod Cuts
 pub mod Tests
 pub mod Bytes
+pub mod Bits
 pub mod Lists
 pub mod Refusals
 pub mod Unique

@@ -1,7 +1,7 @@
 -- Bar levels from 64 on, 65 to 127 among them, light all 64 segments.
 --     bar-full            under a level of 64 or more every digit is FFH
---     full-bar-at-load    the word of such a level gives eight FFH, whatever stood there, and does nothing else but wake the chip and
---                         end a readout
+--     full-bar-applied    such a level gives eight FFH, whatever stood there, and does nothing else but wake the chip and end a readout
+--     full-bar-at-load    so does a LOAD rise with its word, where the level has one
 -- Assumes nothing.
 use mathlib.Core.Path.{_≡_, ap, _∙_}
 use mathlib.Core.Bool.{true}
@@ -31,9 +31,11 @@ bar-full level h = λ i.
     digit-full level 0 h (lit< tt) i ∷ digit-full level 1 h (lit< tt) i ∷ digit-full level 2 h (lit< tt) i ∷ digit-full level 3 h (lit< tt) i
     ∷ digit-full level 4 h (lit< tt) i ∷ digit-full level 5 h (lit< tt) i ∷ digit-full level 6 h (lit< tt) i ∷ digit-full level 7 h (lit< tt) i ∷ []
 
+pub full-bar-applied : (level : ℕ) → 64 ≤ level → (c : Chip) → applied (BarLevel level) c ≡ withDigits allLit (woken c)
+unfolding applied obey
+full-bar-applied level h c = ap (λ (ds : List ℕ). withDigits ds (woken c)) (bar-full level h)
+
 pub full-bar-at-load : (level : ℕ) → 64 ≤ level → level ≤ 127
     → AtLoad (0b000100000000 + level) (λ c d. d ≡ withDigits allLit (woken c))
-unfolding applied obey
 full-bar-at-load level h l c r =
-    at-load (0b000100000000 + level) (done (BarLevel level)) (bar-word level l) (λ (d : Chip). d) c r
-    ∙ ap (λ (ds : List ℕ). withDigits ds (woken c)) (bar-full level h)
+    at-load (0b000100000000 + level) (done (BarLevel level)) (bar-word level l) (λ (d : Chip). d) c r ∙ full-bar-applied level h c

@@ -1,10 +1,4 @@
--- Bits of masks, and their trailing zeros.
---     or-bit          a bit of an OR
---     and-bit         a bit of an AND
---     shr-bit         a bit of a number that was shifted down
---     byte-bit        a bit of a byte made of bits
---     byte-of-bit     a bit of one of a number's bytes
---     low-byte        the low eight bits of a number, by what they are
+-- Masks of eight bits, and their trailing zeros.
 --     any-same        one of eight bits is set, whatever they are called
 --     gathered-bit    a number laid three times over itself has eight of its bits in one place
 --     any-set         one of eight bits is set exactly where the byte made of them isn't 0
@@ -14,93 +8,17 @@
 -- Assumes nothing.
 use mathlib.Core.Path.{_≡_, refl, ap, ap₂, sym, subst, _∙_}
 use mathlib.Core.Bool.{Bool, true, false, not, _&&_, _||_}
-use Prim.Native.Nat.{ℕ, _+_, _*_, _/_, _%_, _^_, _<_}
-use native.Mathlib.Nat.{mod-lt, lt-of-le-of-lt}
+use Prim.Native.Nat.{ℕ, _+_, _*_, _/_, _^_, _<_}
 use native.Mathlib.Omega.{arith}
 use lib.Dec.{T, eqb, ltb, ltb→lt, lit<}
 use borrow.Author.Tests.{ne-eqb, not-true}
-use lib.Bits.{bitAnd, bitOr, and-shr, and-mod, or-shr, or-mod, and-le-r, and-mask}
+use lib.Bits.{bitOr}
 use lib.Count.{trailingZeros}
-use lib.Pow.{shr-shr}
-use Rattle.base.specs.Bits.{cut, bit, bitValue, byteOf}
-use Rattle.base.specs.Below.{below, EachBelow}
-use Rattle.base.proofs.Bytes.{byte-back, byte-same, byte-below}
-use Rattle.base.proofs.Cuts.{bit-value-lt}
-use Rattle.base.proofs.Tests.{is-true, and-left, and-right, at-below, each-below, by-equality}
-
--- ---- bits of numbers
-
--- a bit of what is done bit by bit
-bit-by-bit : (op : ℕ → ℕ → ℕ) (f : Bool → Bool → Bool) → ((a b k : ℕ) → op a b / 2 ^ k ≡ op (a / 2 ^ k) (b / 2 ^ k))
-    → ((a b k : ℕ) → op a b % 2 ^ k ≡ op (a % 2 ^ k) (b % 2 ^ k))
-    → EachBelow (λ p. EachBelow (λ q. eqb (op p q) 1 ≡ f (eqb p 1) (eqb q 1)) 2) 2
-    → (a b k : ℕ) → bit (op a b) k ≡ f (bit a k) (bit b k)
-bit-by-bit op f shr rem two a b k =
-    ap (λ x. eqb (x % 2) 1) (shr a b k)
-    ∙ ap (λ x. eqb x 1) (rem (a / 2 ^ k) (b / 2 ^ k) 1)
-    ∙ each-below (λ q. eqb (op (a / 2 ^ k % 2) q) 1 ≡ f (eqb (a / 2 ^ k % 2) 1) (eqb q 1)) 2
-    (each-below (λ p. EachBelow (λ q. eqb (op p q) 1 ≡ f (eqb p 1) (eqb q 1)) 2) 2 two (a / 2 ^ k % 2) (mod-lt (a / 2 ^ k) (lit< tt)))
-    (b / 2 ^ k % 2)
-    (mod-lt (b / 2 ^ k) (lit< tt))
-
-pub or-bit : (a b k : ℕ) → bit (bitOr a b) k ≡ (bit a k || bit b k)
-or-bit = bit-by-bit bitOr _||_ or-shr or-mod ((refl, (refl, tt)), ((refl, (refl, tt)), tt))
-
--- the mask's bit first
-pub and-bit : (n mask k : ℕ) → bit (bitAnd n mask) k ≡ (bit mask k && bit n k)
-and-bit = bit-by-bit bitAnd (λ p q. q && p) and-shr and-mod ((refl, (refl, tt)), ((refl, (refl, tt)), tt))
-
-pub shr-bit : (n by k : ℕ) → bit (n / 2 ^ by) k ≡ bit n (by + k)
-shr-bit n by k = ap (λ x. eqb (x % 2) 1) (shr-shr n by k)
-
--- a bit of a byte made of bits
-pub byte-bit : (f : ℕ → Bool) (s : ℕ) → s < 8 → bit (byteOf f) s ≡ f s
-byte-bit f =
-    let a = bit-value-lt (f 0) in
-    let b = bit-value-lt (f 1) in
-    let c = bit-value-lt (f 2) in
-    let d = bit-value-lt (f 3) in
-    let e = bit-value-lt (f 4) in
-    let g = bit-value-lt (f 5) in
-    let h = bit-value-lt (f 6) in
-    let i = bit-value-lt (f 7) in
-    each-below (λ s. bit (byteOf f) s ≡ f s) 8 (
-      told 7 (omega arith),
-      (
-        told 6 (omega arith),
-        (
-          told 5 (omega arith),
-          (
-            told 4 (omega arith),
-            (told 3 (omega arith), (told 2 (omega arith), (told 1 (omega arith), (told 0 (omega arith), tt)))),
-          ),
-        ),
-      ),
-    )
-  where
-    bit-value-back : (b : Bool) → eqb (bitValue b) 1 ≡ b
-    bit-value-back true = refl
-    bit-value-back false = refl
-
-    told : (s : ℕ) → byteOf f / 2 ^ s % 2 ≡ bitValue (f s) → bit (byteOf f) s ≡ f s
-    told s e = ap (λ x. eqb x 1) e ∙ bit-value-back (f s)
-
--- the mask of eight bits keeps each of them
-ones : (s : ℕ) → s < 8 → bit 255 s ≡ true
-ones s h = is-true (bit 255 s) (at-below (bit 255) 8 tt s h)
-
-low-bit : (n s : ℕ) → s < 8 → bit (bitAnd n 255) s ≡ bit n s
-low-bit n s h = and-bit n 255 s ∙ ap (λ t. t && bit n s) (ones s h)
-
--- a bit of one of a number's bytes
-pub byte-of-bit : (n d s : ℕ) → s < 8 → bit (cut n (8 * d) 8) s ≡ bit n (8 * d + s)
-byte-of-bit n d s h = ap (λ x. bit x s) (sym (and-mask (n / 2 ^ (8 * d)) 8)) ∙ low-bit (n / 2 ^ (8 * d)) s h ∙ shr-bit n (8 * d) s
-
--- the low eight bits of a number, by what they are
-pub low-byte : (n : ℕ) (f : ℕ → Bool) → ((s : ℕ) → s < 8 → bit n s ≡ f s) → bitAnd n 255 ≡ byteOf f
-low-byte n f e =
-    sym (byte-back (bitAnd n 255) (lt-of-le-of-lt (and-le-r n 255) (lit< tt)))
-    ∙ byte-same (bit (bitAnd n 255)) f (λ s h. low-bit n s h ∙ e s h)
+use Rattle.base.specs.Bits.{bit, byteOf}
+use Rattle.base.specs.Below.{below}
+use Rattle.base.proofs.Bits.{or-bit, shr-bit}
+use Rattle.base.proofs.Bytes.{byte-below, byte-bit}
+use Rattle.base.proofs.Tests.{is-true, and-left, and-right, at-below, by-equality}
 
 -- ---- eight bits at once
 

@@ -14,13 +14,13 @@ use lib.Dec.{eqb, lit<}
 use lib.Count.{trailingZeros}
 use borrow.Author.Tests.{eq-eqb, eqb-true, not-false}
 use Rattle.base.specs.Bits.{bit}
-use Rattle.base.proofs.Bytes.{byte-below}
+use Rattle.base.proofs.Bytes.{byte-below, byte-bit}
 use Rattle.base.proofs.Cuts.{cut-past}
 use Rattle.base.proofs.Tests.{by-order}
 use Rattle.chip.specs.Masks.{Packs, rowOf, closedSegs, lowestIn}
 use Rattle.chip.specs.Scans.{closed, result}
 use Rattle.chip.proofs.Closed.{result-is, result-none}
-use Rattle.chip.proofs.Masks.{byte-bit, lowest-set}
+use Rattle.chip.proofs.Masks.{lowest-set}
 
 -- 0 has no bit
 zero-bit : (k : ℕ) → bit 0 k ≡ false

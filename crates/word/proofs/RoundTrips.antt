@@ -16,7 +16,7 @@ use Rattle.base.specs.Bits.{cut, bitValue}
 use Rattle.base.specs.Below.{below, count}
 use Rattle.base.specs.Refusals.{Told, done, refused}
 use Rattle.base.proofs.Picks.{pick-yes, pick-no}
-use Rattle.base.proofs.Cuts.{bit-value-lt}
+use Rattle.base.proofs.Cuts.{bit-value-lt, bit-value-back}
 use Rattle.base.proofs.Tests.{at-below, and-left, and-right, by-order}
 use Rattle.word.specs.Words.{decodedOf, encodedOf, wordOf, legal, plain, unlisted}
 use Rattle.word.specs.declared.Command.{Command}
@@ -29,8 +29,7 @@ use Rattle.word.proofs.Rows.{fits-row, above-unlisted}
 
 -- a bit is read back from the number that it is
 bit-back : (b : Bool) (n : ℕ) → n ≡ bitValue b → eqb n 1 ≡ b
-bit-back true n e = ap (λ (x : ℕ). eqb x 1) e
-bit-back false n e = ap (λ (x : ℕ). eqb x 1) e
+bit-back b n e = ap (λ (x : ℕ). eqb x 1) e ∙ bit-value-back b
 
 -- the words that end in fields, each field below its bound
 module _ (s : System) where

@@ -3,14 +3,14 @@
 --     encode-decoded    the kind and fields of a listed word are encoded as that word, but for x bits
 -- Assumes nothing.
 use mathlib.Core.Path.{_≡_, refl, ap, sym, _∙_}
-use mathlib.Core.Bool.{Bool, true, false}
+use mathlib.Core.Bool.{Bool}
 use mathlib.Core.List.{[], _∷_}
 use Prim.Native.Nat.{ℕ, _≤_}
 use native.Mathlib.Omega.{arith}
-use lib.Dec.{T, eqb, leb, leb→le}
+use lib.Dec.{T, leb, leb→le}
 use Rattle.base.specs.Bits.{bitValue}
 use Rattle.base.specs.Refusals.{Told, done}
-use Rattle.base.proofs.Cuts.{bit-value-lt}
+use Rattle.base.proofs.Cuts.{bit-value-lt, bit-value-back}
 use Rattle.base.proofs.Tests.{and-left, and-right, is-true}
 use Rattle.word.specs.declared.Command.{Command}
 use Rattle.word.specs.declared.Command.the-variants.{NoOperation, BarLevel, SegmentClear, SegmentSet, Reset, Sleep, ShiftLeft, ShiftRight, RotateLeft, RotateRight, CustomCharacter, SystemParameters, DisplayParameters, BlinkByte, ReadKey, LoadDigit}
@@ -19,10 +19,6 @@ use Rattle.word.proofs.RoundTrips.{word-back, meaning-legal}
 use Rattle.zhaqsumir.specs.Commands.{numbersOf, commandFrom, commandIn}
 use Rattle.zhaqsumir.specs.Numbers.{alone, encodedBy, encodeNumbers}
 use Rattle.zhaqsumir.proofs.Fields.{fits-in, legal-word}
-
-bit-value-back : (b : Bool) → eqb (bitValue b) 1 ≡ b
-bit-value-back true = refl
-bit-value-back false = refl
 
 bit-value-most : (b : Bool) → bitValue b ≤ 1
 bit-value-most b = omega (arith, bit-value-lt b)

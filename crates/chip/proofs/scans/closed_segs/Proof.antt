@@ -4,7 +4,8 @@ use mathlib.Core.Path.{_∙_}
 use Prim.Native.Nat.{_+_, _*_}
 use lib.Bits.{mask-lt}
 use Rattle.base.specs.Bits.{bit}
-use Rattle.chip.proofs.Masks.{gathered, low-byte, gathered-bit, any-set}
+use Rattle.base.proofs.Bits.{low-byte}
+use Rattle.chip.proofs.Masks.{gathered, gathered-bit, any-set}
 use Rattle.chip.proofs.scans.closed_segs.Statement.{statement}
 use Rattle.chip.proofs.scans.closed_segs.Tie as tie
 

@@ -13,7 +13,7 @@ use mir.Val.{Fits}
 use mir.Syntax.{w8}
 use Rattle.base.specs.Bits.{cut, bit}
 use Rattle.base.proofs.Tests.{each-below}
-use Rattle.chip.proofs.Masks.{byte-of-bit}
+use Rattle.base.proofs.Bits.{byte-of-bit}
 use borrow.Author.Needs.{needs}
 use Rattle.chip.proofs.scans.packed.Statement.{statement}
 use Rattle.chip.proofs.scans.packed.Tie as tie

@@ -7,7 +7,8 @@ use native.Mathlib.Omega.{arith}
 use lib.Dec.{eqb}
 use lib.Bits.{bitAnd, mask-lt}
 use Rattle.base.specs.Bits.{bit}
-use Rattle.chip.proofs.Masks.{gathered, and-bit, shr-bit, low-byte, gathered-bit, any-same, only-one, mask-bit}
+use Rattle.base.proofs.Bits.{and-bit, shr-bit, low-byte}
+use Rattle.chip.proofs.Masks.{gathered, gathered-bit, any-same, only-one, mask-bit}
 use borrow.Author.Needs.{needs}
 use Rattle.chip.proofs.scans.row.Statement.{statement}
 use Rattle.chip.proofs.scans.row.Tie as tie
