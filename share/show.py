@@ -65,17 +65,28 @@ WHOLE = {
 }
 
 
-def explained(line, refused):
-    """A line of `replay` and its meaning."""
-    frame = bytes.fromhex(line)
-    if frame[0] == 0x10:
-        text = "chip %d: %s" % (frame[1], meaning(frame[2] << 8 | frame[3]))
-    elif frame[0] == 0x11:
-        address = frame[2] - 0x40
-        text = "chip %d: key %02XH (%s) recorded, code %02XH" % (frame[1], address, place_of(address), frame[2])
-    else:
-        text = refused
-    return ["%-8s    %s" % (line, text)]
+def key_of(code):
+    """The key of a code, which is 40H + its address."""
+    return "key %02XH (%s)" % (code - 0x40, place_of(code - 0x40))
+
+
+def explained(lines, refused):
+    """The lines of `replay` and their meanings. What is lost where a code is recorded over an unread one is the code that the same chip
+    recorded last: an interrupt stands from a record on, until it is read or cleared."""
+    unread = {}
+    for line in lines:
+        frame = bytes.fromhex(line)
+        if frame[0] == 0x10:
+            text = "chip %d: %s" % (frame[1], meaning(frame[2] << 8 | frame[3]))
+        elif frame[0] in (0x11, 0x12):
+            chip, code = frame[1], frame[2]
+            text = "chip %d: %s recorded, code %02XH" % (chip, key_of(code), code)
+            if frame[0] == 0x12:
+                text += "; the unread code %02XH of %s is lost" % (unread[chip], key_of(unread[chip]))
+            unread[chip] = code
+        else:
+            text = refused
+        yield "%-8s    %s" % (line, text)
 
 
 # ---- --picture ----
@@ -95,21 +106,25 @@ def drawn_row(row, segments):
     return "".join(mark if bit is None or segments >> bit & 1 else " " for bit, mark in row)
 
 
-def drawn(line, refused):
-    """A line of `screen`, and below it the eight digits of its chip, DIG7 leftmost."""
-    frame = bytes.fromhex(line)
-    if frame[0] != 0x30:
-        return ["%s    %s" % (line, refused)]
-    digits = list(enumerate(frame[2:]))[::-1]
-    lines = [MARGIN + GAP.join(drawn_row(row, segments) for _, segments in digits) for row in ROWS]
-    names = MARGIN + GAP.join("DIG%d" % digit for digit, _ in digits)
-    return ["%s    chip %d" % (line, frame[1])] + [each.rstrip() for each in lines] + [names, ""]
+def drawn(lines, refused):
+    """The lines of `screen`, and below each the eight digits of its chip, DIG7 leftmost."""
+    for line in lines:
+        frame = bytes.fromhex(line)
+        if frame[0] != 0x30:
+            yield "%s    %s" % (line, refused)
+            continue
+        digits = list(enumerate(frame[2:]))[::-1]
+        yield "%s    chip %d" % (line, frame[1])
+        for row in ROWS:
+            yield (MARGIN + GAP.join(drawn_row(row, segments) for _, segments in digits)).rstrip()
+        yield MARGIN + GAP.join("DIG%d" % digit for digit, _ in digits)
+        yield ""
 
 
 def main():
     signal.signal(signal.SIGPIPE, signal.SIG_DFL)
     show = {"explain": explained, "picture": drawn}[sys.argv[1]]
-    lines = [shown for line in sys.stdin.read().split() for shown in show(line, sys.argv[2])]
+    lines = list(show(sys.stdin.read().split(), sys.argv[2]))
     try:
         sys.stdout.write("".join(line + "\n" for line in lines))
         sys.stdout.close()

@@ -9,7 +9,7 @@ enum { MOST_TEXT = 81920 };
 static struct stretch answers, outs;
 static struct fence fence;
 static struct tally replayed = { .name = "replay" };
-static unsigned long words_seen, keys_seen;
+static unsigned long words_seen, keys_seen, lost_seen;
 
 static void replay_one(const unsigned char *text, unsigned long length)
 {
@@ -37,6 +37,7 @@ static void replay_one(const unsigned char *text, unsigned long length)
         if (i == 0 || out[i - 1] == '\n') {
             words_seen += out[i + 1] == '0';
             keys_seen += out[i + 1] == '1';
+            lost_seen += out[i + 1] == '2';
         }
     }
 }
@@ -258,6 +259,6 @@ void compare_texts(unsigned long count)
         replay_one(text, length);
     }
     report(&replayed, refusals, 0);
-    printf("    words written: %lu, keys: %lu\n", words_seen, keys_seen);
-    must(words_seen > 0 && keys_seen > 0, "no words or no keys were ever written");
+    printf("    words written: %lu, keys: %lu, over unread ones: %lu\n", words_seen, keys_seen, lost_seen);
+    must(words_seen > 0 && keys_seen > 0 && lost_seen > 0, "no words, no keys or no keys over unread ones were ever written");
 }

@@ -24,30 +24,35 @@ static int wakes(const unsigned char contacts[8])
     return 0;
 }
 
-/* Takes a scan; says whether it recorded a key. */
-static int scan(struct chip *c, const unsigned char contacts[8])
+/* What a scan did: it recorded nothing, a code, or a code over an unread one, or it noted a release. */
+enum recorded { NOTHING, CODE, OVER_UNREAD, RELEASED };
+
+/* Takes a scan; says what it did. */
+static enum recorded scan(struct chip *c, const unsigned char contacts[8])
 {
     unsigned char result = result_of(contacts);
-    int recorded = 0;
+    enum recorded what = NOTHING;
 
     if (c->asleep) {
         if (wakes(contacts)) {
             c->asleep = 0;
             c->last = NONE;
         }
-        return 0;
+        return NOTHING;
     }
     if (!c->keyb)
-        return 0;
+        return NOTHING;
     if (result == c->last) {
         if (result == NONE) {
+            if (c->code & 0x40)
+                what = RELEASED;
             c->code &= 0x3F;
         } else if (c->code != 0x40 + result) {
+            what = c->interrupt ? OVER_UNREAD : CODE;
             c->code = 0x40 + result;
             c->interrupt = 1;
-            recorded = 1;
         }
     }
     c->last = result;
-    return recorded;
+    return what;
 }

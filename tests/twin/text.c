@@ -22,9 +22,12 @@ static unsigned char *word_line(unsigned char *to, unsigned k, unsigned word)
     return ended(hex(hex(hex(hex(to, 0x10), k), word >> 8), word & 0xFF));
 }
 
-static unsigned char *key_line(unsigned char *to, unsigned k, unsigned code)
+/* A scan that recorded a code: 11, or 12 where it did so over an unread one. */
+static unsigned char *key_line(unsigned char *to, enum recorded what, unsigned k, unsigned code)
 {
-    return ended(hex(hex(hex(to, 0x11), k), code));
+    if (what != CODE && what != OVER_UNREAD)
+        return to;
+    return ended(hex(hex(hex(to, what == CODE ? 0x11 : 0x12), k), code));
 }
 
 static unsigned char *screen_line(unsigned char *to, unsigned k, const unsigned char segments[8])
@@ -133,11 +136,13 @@ static unsigned char *played(struct chain *chain, const unsigned char *samples, 
 static unsigned char *scanned(struct chip *c, unsigned k, const unsigned char contacts[8], int screen, unsigned char *to)
 {
     unsigned char before[8], after[8];
+    enum recorded what;
 
+    if (screen)
+        lit(c, before);
+    what = scan(c, contacts);
     if (!screen)
-        return scan(c, contacts) ? key_line(to, k, c->code) : to;
-    lit(c, before);
-    scan(c, contacts);
+        return key_line(to, what, k, c->code);
     lit(c, after);
     return memcmp(before, after, 8) != 0 ? screen_line(to, k, after) : to;
 }

@@ -20,7 +20,7 @@ use Rattle.base.proofs.Picks.{pick-cases}
 use Rattle.base.proofs.Tests.{and-right}
 use Rattle.chip.specs.declared.Chip.{Chip}
 use Rattle.chip.specs.Edges.{load, loadRises}
-use Rattle.chip.specs.Scans.{Recording, nothing, keyCode, scanned, recorded}
+use Rattle.chip.specs.Scans.{Recording, nothing, keyCode, overUnread, releaseNoted, scanned, recorded}
 use Rattle.chip.specs.Segments.{litOf}
 use Rattle.chain.specs.declared.Chain.{Chain}
 use Rattle.chain.specs.Chain.{most, chipCount, checkedFrom, steppedChain}
@@ -67,6 +67,8 @@ at-rise-room what n ch h =
 key-room : (k : ℕ) (r : Recording) → length (keyLine k r) ≤ 9
 key-room k nothing = omega arith
 key-room k (keyCode code) = omega (arith, line-for-length (0x11 ∷ k ∷ code ∷ []))
+key-room k (overUnread code) = omega (arith, line-for-length (0x12 ∷ k ∷ code ∷ []))
+key-room k releaseNoted = omega arith
 
 pub at-scan-room : (what : Report) (k : ℕ) (bytes : List ℕ) (c : Chip) → length (atScan what k bytes c) ≤ lineWidth what
 at-scan-room Words k bytes c = key-room k (recorded bytes c)

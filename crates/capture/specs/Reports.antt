@@ -9,7 +9,7 @@ use lib.ListN.{take}
 use Rattle.base.specs.Bits.{cut}
 use Rattle.base.specs.Pick.{pick}
 use Rattle.chip.specs.declared.Chip.{Chip}
-use Rattle.chip.specs.Scans.{Recording, nothing, keyCode, ScanLeaves, scanLeaves}
+use Rattle.chip.specs.Scans.{Recording, nothing, keyCode, overUnread, releaseNoted, ScanLeaves, scanLeaves}
 use Rattle.chip.specs.Segments.{litOf}
 use Rattle.chain.specs.declared.Chain.{Chain}
 use Rattle.lines.specs.Lines.{lineFor, fourBytes}
@@ -34,10 +34,12 @@ riseLines what k (c ∷ cs) = riseLine what k c ++ riseLines what (suc k) cs
 abbrev pub atRise : Report → ℕ → Chain → List ℕ
 atRise what n ch = riseLines what 0 (take n (ch .chips))
 
--- a recorded key: 11, chip, code
+-- a recorded key: 11, chip, code; 12 in place of 11 where an unread code was overwritten; a release writes no line
 abbrev pub keyLine : ℕ → Recording → List ℕ
 keyLine k nothing = []
 keyLine k (keyCode code) = lineFor (0x11 ∷ k ∷ code ∷ [])
+keyLine k (overUnread code) = lineFor (0x12 ∷ k ∷ code ∷ [])
+keyLine k releaseNoted = []
 
 -- lists of bytes are the same
 unfoldable pub sameBytes : List ℕ → List ℕ → Bool

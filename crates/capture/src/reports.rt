@@ -6,10 +6,12 @@ use chip::Recorded;
 use chip::scans::AfterScan;
 ghost use mathlib.Core.Path.{_≡_};
 ghost use Prim.Native.Nat.{_+_, _≤_, _<_};
+ghost use mathlib.Core.List.{[], _∷_};
 ghost use lib.ListN.{length};
 ghost use Rattle.chain.specs.Chain.{most};
 ghost use Rattle.chip.specs.Scans.{recordingOf, leavesOf};
 ghost use Rattle.lines.specs.Answers as P;
+ghost use Rattle.lines.specs.Lines as L;
 ghost use Rattle.capture.specs.Reports as R;
 
 // The segments lit of a chip: 30, chip, eight bytes.
@@ -84,17 +86,25 @@ fn same(a: [u8; 8], b: [u8; 8]) -> bool
     true
 }
 
-// A recorded key: 11, chip, code.
+// A code of a chip: the line's kind, chip, code.
+fn code_line(kind: u8, k: u8, code: u8, out: &mut [u8], at: usize) -> usize
+    requires { ⌜ at + length (L.lineFor (kind ∷ k ∷ code ∷ [])) ≤ length (now out) ⌝ }
+    ensures { λ r. ⌜ P.Puts (L.lineFor (kind ∷ k ∷ code ∷ [])) at (now (out .entry)) r (now (out .exit)) ⌝ }
+{
+    let bytes = [kind, k, code];
+    lines::put_line(&bytes, out, at)
+}
+
+// A recorded key: 11, chip, code, or 12 where it overwrote an unread one; a release writes nothing.
 fn key_line(k: u8, what: Recorded, out: &mut [u8], at: usize) -> usize
     requires { ⌜ at + length (R.keyLine k (recordingOf what)) ≤ length (now out) ⌝ }
     ensures { λ r. ⌜ P.Puts (R.keyLine k (recordingOf what)) at (now (out .entry)) r (now (out .exit)) ⌝ }
 {
     match what {
         Recorded::Nothing => at,
-        Recorded::Key(code) => {
-            let bytes = [0x11, k, code];
-            lines::put_line(&bytes, out, at)
-        }
+        Recorded::Key(code) => code_line(0x11, k, code, out, at),
+        Recorded::OverUnread(code) => code_line(0x12, k, code, out, at),
+        Recorded::Released => at,
     }
 }
 

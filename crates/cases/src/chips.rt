@@ -214,14 +214,20 @@ fn custom() {
     line_end();
 }
 
-// A chip after a scan of one byte at DIG3 and one at DIG4, with what it recorded written as a code or a dash.
+// A chip after a scan of one byte at DIG3 and one at DIG4, with what it recorded written: a dash, a code, a code over an unread one, or
+// that the key was let go.
 fn scan(c: Chip, dig3: u8, dig4: u8) -> Chip {
     let r = chip::scan(c, [0, 0, 0, dig3, dig4, 0, 0, 0]);
     let answer = r.answer;
     match answer {
         ScanAnswer::Took(what) => match what {
-            Recorded::Key(code) => put_byte(code),
             Recorded::Nothing => put(b"-"),
+            Recorded::Key(code) => put_byte(code),
+            Recorded::OverUnread(code) => {
+                put(b"over ");
+                put_byte(code)
+            }
+            Recorded::Released => put(b"free"),
         },
         ScanAnswer::Refused(_) => put(b"refused"),
     }

@@ -9,7 +9,7 @@ use Rattle.word.specs.declared.Command.{Command}
 use Rattle.word.specs.declared.Command.the-variants.{NoOperation}
 use Rattle.word.specs.Words.{decodedOf}
 use Rattle.chip.specs.Edges.{loadRises}
-use Rattle.chip.specs.Scans.{Recording, nothing, keyCode, scanned, recorded}
+use Rattle.chip.specs.Scans.{Recording, nothing, keyCode, overUnread, releaseNoted, scanned, recorded}
 use Rattle.chip.specs.History.{Step, told}
 use Rattle.chip.specs.History as History
 use Rattle.chain.specs.declared.Chain.{Chain}
@@ -77,8 +77,10 @@ abbrev pub recordsIn : ℕ → ℕ → List Event → Chain → List Recording
 recordsIn k n [] ch = []
 recordsIn k n (e ∷ es) ch = recordsAt k e ch ++ recordsIn k n es (happens n e ch)
 
--- the codes among them, whatever they are: what the till gets of chip k
+-- the codes among them, whatever they are, over unread ones or not: what the till gets of chip k
 abbrev pub codesIn : List Recording → List ℕ
 codesIn [] = []
 codesIn (nothing ∷ rest) = codesIn rest
 codesIn (keyCode code ∷ rest) = code ∷ codesIn rest
+codesIn (overUnread code ∷ rest) = code ∷ codesIn rest
+codesIn (releaseNoted ∷ rest) = codesIn rest

@@ -6,6 +6,7 @@ pub mod Shapes
 pub mod Valid
 pub mod Quiet
 pub mod OneScan
+pub mod Meanings
 pub mod Once
 pub mod Again
 pub mod Cases

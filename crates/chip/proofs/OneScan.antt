@@ -1,7 +1,9 @@
 -- What one scan, or two alike, does to a chip that takes scans.
 --     scanned-on          a scan of a chip awake with KEYB on changes its key record alone
+--     new-key             what a new key is
+--     code-taken          a code that is recorded counts as recorded, over an unread one or not
 --     recorded-new        a scan that records a code found the chip awake with KEYB on, and a new key
---     not-recorded        no new key: nothing is recorded
+--     not-recorded        no new key: no code is recorded
 --     keyed-code          no new key and no second empty scan: the code stays
 --     scanned-code        so it does whether or not the chip is awake and KEYB on
 --     held-not-new        a key whose code is held is no new key
@@ -12,23 +14,19 @@
 --     keyed-twice         a key in two scans is held
 --     released-twice      two empty scans after an address release the key
 -- Assumes nothing.
-use mathlib.Core.Path.{_≡_, refl, ap, _∙_}
-use mathlib.Core.Bool.{Bool, true, false, not, _&&_, false≢true, and-false}
+use mathlib.Core.Path.{_≡_, refl, ap, sym, _∙_}
+use mathlib.Core.Bool.{Bool, true, false, not, _&&_, false≢true, and-false, and-eq-true-iff}
 use Prim.Native.Nat.{ℕ, _<_}
 use native.Mathlib.Omega.{arith}
 use lib.Dec.{eqb}
-use borrow.Author.Tests.{eq-eqb, ne-eqb, eqb-true, not-true}
+use borrow.Author.Tests.{eq-eqb, ne-eqb, eqb-true, eqb-false, not-true}
 use Rattle.base.proofs.Picks.{pick-yes, pick-no, pick-cases}
 use Rattle.chip.specs.declared.Chip.{Chip}
 use Rattle.chip.specs.declared.Keys.{Keys}
+use Rattle.base.specs.Bits.{bit}
 use Rattle.chip.specs.Record.{none, withKeys}
-use Rattle.chip.specs.Scans.{codeOf, released, newKey, bothNone, keyed, wakes, scannedBy, Recording, recordedBy}
+use Rattle.chip.specs.Scans.{codeOf, released, newKey, bothNone, keyed, wakes, scannedBy, Recording, codeTaken, keysRecord, recordedBy}
 use Rattle.chip.specs.History.{isKey}
-
--- both tests passed
-and-yes : (a b : Bool) → (a && b) ≡ true → (a ≡ true) × (b ≡ true)
-and-yes true b e = (refl, e)
-and-yes false b e = absurd (false≢true e)
 
 -- the second test failed
 and-no : (a b : Bool) → b ≡ false → (a && b) ≡ false
@@ -40,24 +38,46 @@ pub scanned-on : (r : ℕ) (c : Chip) → c .settings .sleeping ≡ false → c 
 unfolding scannedBy
 scanned-on r c w k = pick-no _ _ w ∙ pick-yes _ _ k
 
+-- a new key is an address, in this scan and the last, and another than the one whose code is held
+pub new-key : (r : ℕ) (k : Keys) → newKey r k ≡ true → (r ≡ k .last) × (r ≡ none → ⊥) × (k .code ≡ codeOf r → ⊥)
+new-key r k e =
+    let p = and-eq-true-iff (eqb r (k .last) && not (eqb r none)) (not (eqb (k .code) (codeOf r))) .0 e in
+    let q = and-eq-true-iff (eqb r (k .last)) (not (eqb r none)) .0 (p .0) in
+    (eqb-true r (k .last) (q .0), eqb-false r none (not-true (eqb r none) (q .1)), eqb-false (k .code) (codeOf r) (not-true (eqb (k .code) (codeOf r)) (p .1)))
+
+-- a code that is recorded counts as recorded, over an unread one or not
+pub code-taken : (stood : Bool) (code other : ℕ) → isKey other (codeTaken stood code) ≡ eqb code other
+code-taken stood code other = pick-cases (λ (what : Recording). isKey other what ≡ eqb code other) stood (λ e. refl) (λ e. refl)
+
+-- what is recorded where no new key is found counts for no code
+no-code : (code r : ℕ) (k : Keys) → newKey r k ≡ false → isKey code (keysRecord r k) ≡ false
+no-code code r k n =
+    ap (isKey code) (pick-no _ _ n)
+    ∙ pick-cases (λ (what : Recording). isKey code what ≡ false) (bothNone r k && bit (k .code) 6) (λ e. refl) (λ e. refl)
+
 -- a scan that records a code found the chip awake with KEYB on, and a new key of that code
 pub recorded-new : (code r : ℕ) (c : Chip) → isKey code (recordedBy r c) ≡ true
     → (c .settings .sleeping ≡ false) × (c .settings .system .keyb ≡ true) × (newKey r (c .keys) ≡ true) × (codeOf r ≡ code)
 unfolding recordedBy
 recorded-new code r c =
     pick-cases (λ (what : Recording). isKey code what ≡ true → (c .settings .sleeping ≡ false) × (c .settings .system .keyb ≡ true) × (newKey r (c .keys) ≡ true) × (codeOf r ≡ code))
-    (not (c .settings .sleeping) && c .settings .system .keyb && newKey r (c .keys))
+    (not (c .settings .sleeping) && c .settings .system .keyb)
     (λ t e.
-    let n = and-yes (not (c .settings .sleeping) && c .settings .system .keyb) (newKey r (c .keys)) t in
-    let m = and-yes (not (c .settings .sleeping)) (c .settings .system .keyb) (n .0) in
-    (not-true (c .settings .sleeping) (m .0), m .1, n .1, eqb-true (codeOf r) code e))
+    let on = and-eq-true-iff (not (c .settings .sleeping)) (c .settings .system .keyb) .0 t in
+    let new = found (newKey r (c .keys)) refl e in
+    (not-true (c .settings .sleeping) (on .0), on .1, new .0, new .1))
     (λ t e. absurd (false≢true e))
+  where
+    found : (b : Bool) → newKey r (c .keys) ≡ b → isKey code (keysRecord r (c .keys)) ≡ true → (b ≡ true) × (codeOf r ≡ code)
+    found true n e =
+        (refl, eqb-true (codeOf r) code (sym (ap (isKey code) (pick-yes _ _ n) ∙ code-taken (c .keys .interrupt) (codeOf r) code) ∙ e))
+    found false n e = absurd (false≢true (sym (no-code code r (c .keys) n) ∙ e))
 
--- no new key: nothing is recorded
+-- no new key: no code is recorded
 pub not-recorded : (code r : ℕ) (c : Chip) → newKey r (c .keys) ≡ false → isKey code (recordedBy r c) ≡ false
 unfolding recordedBy
 not-recorded code r c n =
-    ap (isKey code) (pick-no _ _ (and-no (not (c .settings .sleeping) && c .settings .system .keyb) (newKey r (c .keys)) n))
+    pick-cases (λ (what : Recording). isKey code what ≡ false) (not (c .settings .sleeping) && c .settings .system .keyb) (λ t. no-code code r (c .keys) n) (λ t. refl)
 
 -- no new key and no second empty scan: the code stays
 pub keyed-code : (r : ℕ) (k : Keys) → newKey r k ≡ false → bothNone r k ≡ false → keyed r k .code ≡ k .code

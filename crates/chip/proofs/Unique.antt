@@ -16,7 +16,7 @@ use Rattle.chip.specs.declared.ScanAnswer.{ScanAnswer}
 use Rattle.chip.specs.declared.ScanAnswer.the-variants as Answers
 use Rattle.chip.specs.declared.Lit.{Lit}
 use Rattle.chip.specs.declared.scans.AfterScan.{AfterScan}
-use Rattle.chip.specs.Scans.{Recording, nothing, keyCode, recordingOf, ScanLeaves, leavesOf}
+use Rattle.chip.specs.Scans.{Recording, nothing, keyCode, overUnread, releaseNoted, recordingOf, ScanLeaves, leavesOf}
 use Rattle.chip.specs.Entries.{handedChip, scanTells, handedLit}
 use Rattle.chip.proofs.reset_chip
 use Rattle.chip.proofs.apply
@@ -40,16 +40,22 @@ handed-same r s p q =
 pub record-of : Recording → Recorded
 record-of nothing = Records.Nothing
 record-of (keyCode code) = Records.Key code
+record-of (overUnread code) = Records.OverUnread code
+record-of releaseNoted = Records.Released
 
 record-back : (what : Recorded) → record-of (recordingOf what) ≡ what
 unfolding record-of
 record-back Records.Nothing = refl
 record-back (Records.Key code) = refl
+record-back (Records.OverUnread code) = refl
+record-back Records.Released = refl
 
 pub recording-back : (what : Recording) → recordingOf (record-of what) ≡ what
 unfolding record-of
 recording-back nothing = refl
 recording-back (keyCode code) = refl
+recording-back (overUnread code) = refl
+recording-back releaseNoted = refl
 
 answered : Told Recording → ScanAnswer
 answered (done what) = Answers.Took (record-of what)

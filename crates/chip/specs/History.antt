@@ -13,7 +13,7 @@ use Rattle.word.specs.declared.Command.the-variants.{Reset, Sleep, SystemParame
 use Rattle.chip.specs.declared.Chip.{Chip}
 use Rattle.chip.specs.Record.{none}
 use Rattle.chip.specs.Commands.{applied}
-use Rattle.chip.specs.Scans.{Recording, nothing, keyCode, result, scanned, recorded}
+use Rattle.chip.specs.Scans.{Recording, nothing, keyCode, overUnread, releaseNoted, result, scanned, recorded}
 
 -- one step: a command applied directly, or a scan with eight bytes
 pub data Step : Type 0 where
@@ -32,10 +32,12 @@ recordsOf [] c = []
 recordsOf (told command ∷ h) c = recordsOf h (applied command c)
 recordsOf (scan bytes ∷ h) c = recorded bytes c ∷ recordsOf h (scanned bytes c)
 
--- whether a scan recorded a code
+-- whether a scan recorded a code, over an unread one or not
 abbrev pub isKey : ℕ → Recording → Bool
 isKey code nothing = false
 isKey code (keyCode k) = eqb k code
+isKey code (overUnread k) = eqb k code
+isKey code releaseNoted = false
 
 -- how many of the records are a code's
 abbrev pub countOf : ℕ → List Recording → ℕ

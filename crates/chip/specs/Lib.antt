@@ -4,6 +4,7 @@ pub mod Edges
 pub mod Segments
 pub mod Scans
 pub mod Masks
+pub mod Meanings
 pub mod History
 pub mod Cases
 pub mod Entries

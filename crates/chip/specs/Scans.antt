@@ -11,18 +11,22 @@ use Rattle.chip.specs.declared.Keys.{Keys}
 use Rattle.chip.specs.declared.Chip.{Chip}
 use Rattle.chip.specs.declared.scans.AfterScan.{AfterScan}
 use Rattle.chip.specs.declared.Recorded.{Recorded}
-use Rattle.chip.specs.declared.Recorded.the-variants.{Nothing, Key}
+use Rattle.chip.specs.declared.Recorded.the-variants.{Nothing, Key, OverUnread, Released}
 use Rattle.chip.specs.Record.{none, withKeys, withSleeping, withLast}
 
--- what a scan records, by document 01's values: nothing, or a code
+-- what a scan records: nothing; a code; a code over an unread one, where an interrupt stood; or that bit 6 went from 1 to 0
 pub data Recording : Type 0 where
   nothing : Recording
   keyCode : ℕ → Recording
+  overUnread : ℕ → Recording
+  releaseNoted : Recording
 
 -- the value of each case of the answer
 abbrev pub recordingOf : Recorded → Recording
 recordingOf Nothing = nothing
 recordingOf (Key code) = keyCode code
+recordingOf (OverUnread code) = overUnread code
+recordingOf Released = releaseNoted
 
 -- byte d, bit s is the contact of DIG d and SEG s, whose address is 8·s + d
 abbrev pub closed : List ℕ → ℕ → Bool
@@ -79,10 +83,19 @@ scannedBy r c =
     pick (c .settings .sleeping) (scannedAsleep r c)
     (pick (c .settings .system .keyb) (withKeys (keyed r (c .keys)) c) c)
 
+-- a code that is recorded: over an unread one, where an interrupt stood before the scan
+abbrev pub codeTaken : Bool → ℕ → Recording
+codeTaken stood code = pick stood (overUnread code) (keyCode code)
+
+-- what a scan with a result records on a chip that is awake with KEYB on: a new key's code; release, where bit 6 is there to be cleared
+abbrev pub keysRecord : ℕ → Keys → Recording
+keysRecord r k =
+    pick (newKey r k) (codeTaken (k .interrupt) (codeOf r))
+    (pick (bothNone r k && bit (k .code) 6) releaseNoted nothing)
+
 -- what a scan with a result records: asleep or with KEYB off nothing
 unfoldable pub recordedBy : ℕ → Chip → Recording
-recordedBy r c =
-    pick (not (c .settings .sleeping) && c .settings .system .keyb && newKey r (c .keys)) (keyCode (codeOf r)) nothing
+recordedBy r c = pick (not (c .settings .sleeping) && c .settings .system .keyb) (keysRecord r (c .keys)) nothing
 
 abbrev pub scanned : List ℕ → Chip → Chip
 scanned bytes c = scannedBy (result bytes) c

@@ -57,11 +57,16 @@ pub struct Chip {
 // The last scan, or a scan's result, where no contact was closed.
 pub const NONE: u8 = 64;
 
-// What a scan recorded.
+// What a scan recorded: one of four things.
 pub enum Recorded {
+    // Nothing recorded.
     Nothing,
     // A key's code, 40H + its address.
     Key(u8),
+    // The same over an unread code: an interrupt stood.
+    OverUnread(u8),
+    // Release noted: bit 6 of the code went from 1 to 0.
+    Released,
 }
 
 // A chip handed back, and whether it was refused.

@@ -79,68 +79,61 @@ fn is_new_key(r: u8, keys: Keys) -> bool
     keys.code as u16 != 64 + r as u16
 }
 
-// What a scan does to the key record of a chip that is awake with KEYB on.
-fn keyed(r: u8, keys: Keys) -> Keys
+// What a code that is recorded is told as: over an unread one, where an interrupt stood.
+fn code_taken(stood: bool, code: u8) -> Recorded
+    ensures { λ what. ⌜ S.recordingOf what ≡ S.codeTaken stood code ⌝ }
+{
+    if stood {
+        return Recorded::OverUnread(code);
+    }
+    Recorded::Key(code)
+}
+
+// A key record after a scan, and what the scan recorded.
+struct AfterKeys {
+    keys: Keys,
+    recorded: Recorded,
+}
+
+// A scan of a chip that is awake with KEYB on: what it does to the key record, and what it records.
+fn keyed(r: u8, keys: Keys) -> AfterKeys
     requires { ⌜ r ≤ 64 ⌝ }
-    ensures { λ k. ⌜ k ≡ S.keyed r keys ⌝ }
+    ensures { λ t. ⌜ t .keys ≡ S.keyed r keys ⌝ }
+    ensures { λ t. ⌜ S.recordingOf (t .recorded) ≡ S.keysRecord r keys ⌝ }
 {
     let mut next = keys;
     next.last = r;
     if is_new_key(r, keys) {
         next.code = 64 + r;
         next.interrupt = true;
-        return next;
+        return AfterKeys {
+            keys: next,
+            recorded: code_taken(keys.interrupt, next.code),
+        };
     }
     if r != NONE {
-        return next;
+        return AfterKeys {
+            keys: next,
+            recorded: Recorded::Nothing,
+        };
     }
     if keys.last != NONE {
-        return next;
+        return AfterKeys {
+            keys: next,
+            recorded: Recorded::Nothing,
+        };
     }
-    if base::field(keys.code as u16, 6, 1) == 1 {
-        next.code = keys.code - 64;
+    if base::field(keys.code as u16, 6, 1) == 0 {
+        return AfterKeys {
+            keys: next,
+            recorded: Recorded::Nothing,
+        };
     }
-    next
-}
-
-// What a scan with a result does to a chip.
-fn scanned_by(r: u8, chip: Chip) -> Chip
-    requires { ⌜ r ≤ 64 ⌝ }
-    ensures { λ c. ⌜ c ≡ S.scannedBy r chip ⌝ }
-{
-    let mut next = chip;
-    if chip.settings.sleeping {
-        if r < 32 {
-            next.settings.sleeping = false;
-            next.keys.last = NONE;
-        }
-        return next;
+    next.code = keys.code - 64;
+    AfterKeys {
+        keys: next,
+        recorded: Recorded::Released,
     }
-    if !chip.settings.system.keyb {
-        return chip;
-    }
-    let keys = chip.keys;
-    let k = keyed(r, keys);
-    next.keys = k;
-    next
-}
-
-// What a scan with a result records.
-fn recorded_by(r: u8, chip: Chip) -> Recorded
-    requires { ⌜ r ≤ 64 ⌝ }
-    ensures { λ what. ⌜ S.recordingOf what ≡ S.recordedBy r chip ⌝ }
-{
-    if chip.settings.sleeping {
-        return Recorded::Nothing;
-    }
-    if !chip.settings.system.keyb {
-        return Recorded::Nothing;
-    }
-    let keys = chip.keys;
-    if is_new_key(r, keys) {
-        return Recorded::Key(64 + r);
-    }
-    Recorded::Nothing
 }
 
 // A chip after a scan, and what the scan recorded.
@@ -149,13 +142,43 @@ pub struct AfterScan {
     pub recorded: Recorded,
 }
 
+// A scan with a result: what it does to a chip, and what it records.
+fn scanned_by(r: u8, chip: Chip) -> AfterScan
+    requires { ⌜ r ≤ 64 ⌝ }
+    ensures { λ t. ⌜ t .chip ≡ S.scannedBy r chip ⌝ }
+    ensures { λ t. ⌜ S.recordingOf (t .recorded) ≡ S.recordedBy r chip ⌝ }
+{
+    let mut next = chip;
+    if chip.settings.sleeping {
+        if r < 32 {
+            next.settings.sleeping = false;
+            next.keys.last = NONE;
+        }
+        return AfterScan {
+            chip: next,
+            recorded: Recorded::Nothing,
+        };
+    }
+    if !chip.settings.system.keyb {
+        return AfterScan {
+            chip,
+            recorded: Recorded::Nothing,
+        };
+    }
+    let keys = chip.keys;
+    let t = keyed(r, keys);
+    let after = t.keys;
+    let what = t.recorded;
+    next.keys = after;
+    AfterScan {
+        chip: next,
+        recorded: what,
+    }
+}
+
 // One scan of a chip.
 pub fn scanned(bytes: [u8; 8], chip: Chip) -> AfterScan
     ensures { λ t. ⌜ S.leavesOf t ≡ S.scanLeaves bytes chip ⌝ }
 {
-    let r = result(bytes);
-    AfterScan {
-        chip: scanned_by(r, chip),
-        recorded: recorded_by(r, chip),
-    }
+    scanned_by(result(bytes), chip)
 }

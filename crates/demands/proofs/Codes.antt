@@ -5,22 +5,22 @@
 --     answer-2-exactly, answer-2-broken-exactly          and exactly one, where two scans in a row find the key
 -- Assumes nothing.
 use mathlib.Core.Path.{_≡_, refl, ap, ap₂, sym, subst, _∙_}
-use mathlib.Core.Bool.{Bool, true, false, not, _&&_, and-false}
-use mathlib.Core.Logic.{_⊎_, inl, inr}
+use mathlib.Core.Bool.{Bool, true, false, not, _&&_, false≢true}
+use mathlib.Core.Logic.{_⊎_, inl, inr, ⊎-elim}
 use mathlib.Core.List.{List, [], _∷_, _++_}
 use Prim.Native.Nat.{ℕ, zero, suc, _+_, _≤_, _<_}
 use native.Mathlib.Omega.{arith}
 use lib.Dec.{eqb}
 use lib.ListN.{length, replicate}
 use borrow.Author.Tests.{eq-eqb, ne-eqb}
-use Rattle.base.specs.Bits.{bitValue}
+use Rattle.base.specs.Bits.{bit, bitValue}
 use Rattle.base.specs.Pick.{pick}
-use Rattle.base.proofs.Picks.{pick-yes, pick-no, pick-cases}
+use Rattle.base.proofs.Picks.{pick-yes, pick-cases}
 use Rattle.chip.specs.declared.Chip.{Chip}
 use Rattle.chip.specs.Record.{Body, bodyOf, none, withKeys}
-use Rattle.chip.specs.Scans.{Recording, nothing, keyCode, result, codeOf, newKey, keyed, scannedBy, recordedBy, scanned, recorded}
+use Rattle.chip.specs.Scans.{Recording, nothing, keyCode, overUnread, releaseNoted, result, codeOf, newKey, bothNone, keyed, codeTaken, keysRecord, scannedBy, recordedBy, scanned, recorded}
 use Rattle.chip.specs.History.{Step, told, scan, after, recordsOf, isKey, countOf, times, resultsOf, Each}
-use Rattle.chip.proofs.OneScan.{scanned-on, keyed-code, none-not-new, address-not-none}
+use Rattle.chip.proofs.OneScan.{scanned-on, code-taken, keyed-code, none-not-new, address-not-none}
 use Rattle.chip.proofs.Once.{once, once-broken}
 use Rattle.chain.specs.declared.Chain.{Chain}
 use Rattle.chain.specs.Chain.{most}
@@ -33,33 +33,50 @@ use Rattle.demands.proofs.Histories.{times-append, history-append, hist
 
 -- ---- every code is the key's
 
--- a scan whose result is a, or none, records nothing or a's code
-one-record : (a r : ℕ) (c : Chip) → (r ≡ a) ⊎ (r ≡ none) → (recordedBy r c ≡ nothing) ⊎ (recordedBy r c ≡ keyCode (codeOf a))
+-- no other code than key a's
+abbrev OnlyOf : ℕ → Recording → Type 0
+OnlyOf a nothing = Unit {0}
+OnlyOf a (keyCode code) = code ≡ codeOf a
+OnlyOf a (overUnread code) = code ≡ codeOf a
+OnlyOf a releaseNoted = Unit {0}
+
+-- a scan whose result is a, or none, records no other
+one-record : (a r : ℕ) (c : Chip) → (r ≡ a) ⊎ (r ≡ none) → OnlyOf a (recordedBy r c)
 unfolding recordedBy
-one-record a r c (inl e) =
-    pick-cases (λ what. (what ≡ nothing) ⊎ (what ≡ keyCode (codeOf a))) (not (c .settings .sleeping) && c .settings .system .keyb && newKey r (c .keys))
-    (λ yes. inr (ap (λ x. keyCode (codeOf x)) e)) (λ no. inl refl)
-one-record a r c (inr e) =
-    inl
-    (pick-no _ _
-    (ap (λ x. not (c .settings .sleeping) && c .settings .system .keyb && x) (ap (λ x. newKey x (c .keys)) e ∙ none-not-new (c .keys))
-    ∙ and-false (not (c .settings .sleeping) && c .settings .system .keyb)))
+one-record a r c found =
+    pick-cases (OnlyOf a) (not (c .settings .sleeping) && c .settings .system .keyb)
+    (λ on.
+    pick-cases (OnlyOf a) (newKey r (c .keys)) {x = codeTaken (c .keys .interrupt) (codeOf r)}
+    (λ new. pick-cases (OnlyOf a) (c .keys .interrupt) (λ e. of-a new) (λ e. of-a new))
+    (λ old. pick-cases (OnlyOf a) (bothNone r (c .keys) && bit (c .keys .code) 6) (λ e. tt) (λ e. tt)))
+    (λ off. tt)
+  where
+    of-a : newKey r (c .keys) ≡ true → codeOf r ≡ codeOf a
+    of-a new =
+        ⊎-elim (λ e. ap codeOf e) (λ e. absurd (false≢true (sym (ap (λ x. newKey x (c .keys)) e ∙ none-not-new (c .keys)) ∙ new))) found
 
 module _ (a : ℕ) where
-  code-more : (what : Recording) (rest : List Recording) → (what ≡ nothing) ⊎ (what ≡ keyCode (codeOf a))
+  -- one more record without a code, and one more with it
+  none-more : (rest : List Recording) → codesIn rest ≡ replicate (countOf (codeOf a) rest) (codeOf a)
+      → codesIn rest ≡ replicate (0 + countOf (codeOf a) rest) (codeOf a)
+  none-more rest p =
+      let same : countOf (codeOf a) rest ≡ 0 + countOf (codeOf a) rest = omega arith in
+      p ∙ ap (λ m. replicate m (codeOf a)) same
+
+  one-more : (code : ℕ) (rest : List Recording) → code ≡ codeOf a → codesIn rest ≡ replicate (countOf (codeOf a) rest) (codeOf a)
+      → code ∷ codesIn rest ≡ replicate (bitValue (eqb code (codeOf a)) + countOf (codeOf a) rest) (codeOf a)
+  one-more code rest e p =
+      let one : bitValue (eqb code (codeOf a)) ≡ 1 = ap bitValue (eq-eqb code (codeOf a) e) in
+      let same : suc (countOf (codeOf a) rest) ≡ bitValue (eqb code (codeOf a)) + countOf (codeOf a) rest = omega arith in
+      ap₂ _∷_ e p ∙ ap (λ m. replicate m (codeOf a)) same
+
+  code-more : (what : Recording) (rest : List Recording) → OnlyOf a what
       → codesIn rest ≡ replicate (countOf (codeOf a) rest) (codeOf a)
       → codesIn (what ∷ rest) ≡ replicate (countOf (codeOf a) (what ∷ rest)) (codeOf a)
-  code-more what rest (inl e) p =
-      let same : countOf (codeOf a) rest ≡ bitValue (isKey (codeOf a) nothing) + countOf (codeOf a) rest = omega arith in
-      ap (λ w. codesIn (w ∷ rest)) e
-      ∙ p
-      ∙ ap (λ m. replicate m (codeOf a)) (same ∙ ap (λ w. bitValue (isKey (codeOf a) w) + countOf (codeOf a) rest) (sym e))
-  code-more what rest (inr e) p =
-      let one : bitValue (eqb (codeOf a) (codeOf a)) ≡ 1 = ap bitValue (eq-eqb (codeOf a) (codeOf a) refl) in
-      let same : suc (countOf (codeOf a) rest) ≡ bitValue (eqb (codeOf a) (codeOf a)) + countOf (codeOf a) rest = omega arith in
-      ap (λ w. codesIn (w ∷ rest)) e
-      ∙ ap (λ xs. codeOf a ∷ xs) p
-      ∙ ap (λ m. replicate m (codeOf a)) (same ∙ ap (λ w. bitValue (isKey (codeOf a) w) + countOf (codeOf a) rest) (sym e))
+  code-more nothing rest only p = none-more rest p
+  code-more (keyCode code) rest only p = one-more code rest only p
+  code-more (overUnread code) rest only p = one-more code rest only p
+  code-more releaseNoted rest only p = none-more rest p
 
   codes-are : (h : List Step) (c : Chip) → Each (λ r. (r ≡ a) ⊎ (r ≡ none)) (resultsOf h) → codesIn (recordsOf h c) ≡ replicate (times (codeOf a) h c) (codeOf a)
   codes-are [] c p = refl
@@ -74,14 +91,15 @@ module _ (a : ℕ) where
 
 -- ---- found twice
 
-recorded-key : (r : ℕ) (c : Chip) → c .settings .sleeping ≡ false → c .settings .system .keyb ≡ true → newKey r (c .keys) ≡ true → recordedBy r c ≡ keyCode (codeOf r)
+recorded-key : (r : ℕ) (c : Chip) → c .settings .sleeping ≡ false → c .settings .system .keyb ≡ true → newKey r (c .keys) ≡ true
+    → recordedBy r c ≡ codeTaken (c .keys .interrupt) (codeOf r)
 unfolding recordedBy
-recorded-key r c w k new = pick-yes _ _ (λ i. not (w i) && k i && new i)
+recorded-key r c w k new = pick-yes _ _ (λ i. not (w i) && k i) ∙ pick-yes _ _ new
 
 module _ (a : ℕ) (small : a < none) (c : Chip) (awake : c .settings .sleeping ≡ false) (keypad : c .settings .system .keyb ≡ true) (free : c .keys .code ≡ codeOf a → ⊥) where
   -- a record of a's code counts
-  counts : (what : Recording) → what ≡ keyCode (codeOf a) → bitValue (isKey (codeOf a) what) ≡ 1
-  counts what e = ap (λ w. bitValue (isKey (codeOf a) w)) e ∙ ap bitValue (eq-eqb (codeOf a) (codeOf a) refl)
+  counts : (what : Recording) (stood : Bool) → what ≡ codeTaken stood (codeOf a) → bitValue (isKey (codeOf a) what) ≡ 1
+  counts what stood e = ap bitValue (ap (isKey (codeOf a)) e ∙ code-taken stood (codeOf a) (codeOf a) ∙ eq-eqb (codeOf a) (codeOf a) refl)
 
   -- after one scan that didn't record it, the next finds a new key
   next-new : newKey a (c .keys) ≡ false → newKey a (keyed a (c .keys)) ≡ true
@@ -96,11 +114,11 @@ module _ (a : ℕ) (small : a < none) (c : Chip) (awake : c .settings .sleeping 
     where
       go : (b : Bool) → newKey a (c .keys) ≡ b
           → 1 ≤ bitValue (isKey (codeOf a) (recordedBy a c)) + bitValue (isKey (codeOf a) (recordedBy a (scannedBy a c)))
-      go true e = let f = counts (recordedBy a c) (recorded-key a c awake keypad e) in omega arith
+      go true e = let f = counts (recordedBy a c) (c .keys .interrupt) (recorded-key a c awake keypad e) in omega arith
       go false e =
           let same = scanned-on a c awake keypad in
           let f =
-          counts (recordedBy a (scannedBy a c))
+          counts (recordedBy a (scannedBy a c)) (keyed a (c .keys) .interrupt)
           (ap (recordedBy a) same ∙ recorded-key a (withKeys (keyed a (c .keys)) c) awake keypad (next-new e)) in
           omega arith
 

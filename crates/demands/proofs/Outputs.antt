@@ -19,7 +19,7 @@ use Rattle.base.specs.Refusals.{Told, done, refused}
 use Rattle.base.proofs.Picks.{pick-no, pick-cases}
 use Rattle.chip.specs.declared.Chip.{Chip}
 use Rattle.chip.specs.Edges.{loadRises}
-use Rattle.chip.specs.Scans.{Recording, nothing, keyCode, scanned, recorded}
+use Rattle.chip.specs.Scans.{Recording, nothing, keyCode, overUnread, releaseNoted, scanned, recorded}
 use Rattle.chip.specs.Segments.{litOf}
 use Rattle.chain.specs.declared.Chain.{Chain}
 use Rattle.chain.specs.Chain.{steppedChain, played}
@@ -112,6 +112,8 @@ plain-key : (k : ℕ) (r : Recording) → Plain (keyLine k r)
 unfolding hexOf
 plain-key k nothing = plain-none
 plain-key k (keyCode code) = plain-line 0x11 (k ∷ code ∷ []) refl
+plain-key k (overUnread code) = plain-line 0x12 (k ∷ code ∷ []) refl
+plain-key k releaseNoted = plain-none
 
 pub plain-scan : (what : Report) (k : ℕ) (bytes : List ℕ) (c : Chip) → Plain (atScan what k bytes c)
 plain-scan Words k bytes c = plain-key k (recorded bytes c)

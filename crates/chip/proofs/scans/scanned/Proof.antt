@@ -11,17 +11,14 @@ use Rattle.chip.proofs.scans.scanned.Tie as tie
 scanned-by-requires : tie.Need-scanned-by-requires
 scanned-by-requires c κs = subst (λ (r : ℕ). r ≤ 64) (sym (c .result .ensures)) (result-le (c .before .args .bytes))
 
-recorded-by-requires : tie.Need-recorded-by-requires
-recorded-by-requires c κs = subst (λ (r : ℕ). r ≤ 64) (sym (c .before .result .ensures)) (result-le (c .before .before .args .bytes))
-
 returns : tie.Need-returns
 returns c =
-    let chip = c .before .before .before .args .chip in
-    let r = c .before .before .result .ensures in
+    let chip = c .before .before .args .chip in
+    let r = c .before .result .ensures in
     λ i.
     record {
-      chip = (c .before .scanned-by .ensures ∙ ap (λ (x : ℕ). scannedBy x chip) r) i;
-      recorded = (c .recorded-by .ensures ∙ ap (λ (x : ℕ). recordedBy x chip) r) i;
+      chip = (c .scanned-by .ensures .0 ∙ ap (λ (x : ℕ). scannedBy x chip) r) i;
+      recorded = (c .scanned-by .ensures .1 ∙ ap (λ (x : ℕ). recordedBy x chip) r) i;
     }
 
 pub scanned-spec : {M : Type 1} → statement M
@@ -30,5 +27,4 @@ scanned-spec =
     (tie.spec
     (λ c κs. search needs)
     scanned-by-requires
-    recorded-by-requires
     returns)
