@@ -21,6 +21,7 @@ pub fn run() {
     one_segment();
     custom();
     keys();
+    keys_in_a_row();
     sleeping();
 }
 
@@ -261,6 +262,24 @@ fn keys() {
     let both = scan(scan(keypad_chip(), 0x10, 0x02), 0x10, 0x02);
     put(b"code ");
     put_byte(both.keys.code);
+    line_end();
+}
+
+// A second key before the first is read, after it is read, and the same key again.
+fn keys_in_a_row() {
+    put(b"5.3 23, then 0C: ");
+    let pressed = scan(scan(keypad_chip(), 0x10, 0), 0x10, 0);
+    let over = scan(scan(pressed, 0, 0x02), 0, 0x02);
+    put(b"code ");
+    put_byte(over.keys.code);
+    put(b"; 23 read, then 0C: ");
+    let after = scan(scan(told(pressed, Command::ReadKey), 0, 0x02), 0, 0x02);
+    put(b"code ");
+    put_byte(after.keys.code);
+    put(b"; 23 let go, then 23: ");
+    let again = scan(scan(scan(scan(pressed, 0, 0), 0, 0), 0x10, 0), 0x10, 0);
+    put(b"code ");
+    put_byte(again.keys.code);
     line_end();
 }
 

@@ -1,19 +1,23 @@
--- Question 2, worked: a long press broken by one empty scan records once, and what lets the same key be recorded again.
+-- Question 2, worked: a long press broken by one empty scan records once, and what lets the same key be recorded again; and what each
+-- scan records where keys follow one another.
 --     broken-press-records-once  a long press broken by one empty scan records once
 --     second-after-two-empties   two empty scans in a row let the same key be recorded again
 --     second-after-keyb-off      so do KEYB 0, KEYB 1 and an empty scan
 --     second-after-waking        so do sleep, waking by the key's contact and an empty scan
 --     second-after-reset         so does a reset
+--     over-the-unread            a second key before the first is read is recorded over it
+--     after-the-read             after the first is read it isn't
+--     same-key-unread            the same key let go and pressed again, still unread, is recorded over itself; its release is noted once
 -- Assumes nothing.
 use mathlib.Core.Path.{_≡_, refl}
 use mathlib.Core.Bool.{Bool, true, false}
 use mathlib.Core.List.{List, [], _∷_}
 use Prim.Native.Nat.{ℕ}
-use Rattle.word.specs.declared.Command.the-variants.{Reset, Sleep, SystemParameters}
+use Rattle.word.specs.declared.Command.the-variants.{Reset, Sleep, SystemParameters, ReadKey}
 use Rattle.chip.specs.Record.{resetChip}
-use Rattle.chip.specs.Commands.{applied, obey, reset, system}
-use Rattle.chip.specs.Scans.{firstClosed, result, codeOf, scannedBy, recordedBy}
-use Rattle.chip.specs.History.{Step, told, scan, times}
+use Rattle.chip.specs.Commands.{applied, obey, reset, system, readKey}
+use Rattle.chip.specs.Scans.{Recording, nothing, keyCode, overUnread, releaseNoted, firstClosed, result, codeOf, scannedBy, recordedBy}
+use Rattle.chip.specs.History.{Step, told, scan, recordsOf, times}
 
 -- system parameters with KEYB on or off
 abbrev keypad : Bool → Step
@@ -50,3 +54,25 @@ second-after-waking = refl
 pub second-after-reset : recordedIn (key ∷ key ∷ told Reset ∷ keypad true ∷ key ∷ key ∷ []) ≡ 2
 unfolding applied obey reset system scannedBy recordedBy result firstClosed
 second-after-reset = refl
+
+-- ---- what each scan records
+
+-- a scan that finds the key of DIG4 and SEG1, address 0CH
+abbrev other : Step
+other = scan (0 ∷ 0 ∷ 0 ∷ 0 ∷ 0x02 ∷ 0 ∷ 0 ∷ 0 ∷ [])
+
+-- the records of a history that starts with KEYB 1
+abbrev records : List Step → List Recording
+records h = recordsOf (keypad true ∷ h) resetChip
+
+pub over-the-unread : records (key ∷ key ∷ other ∷ other ∷ []) ≡ nothing ∷ keyCode 0x4B ∷ nothing ∷ overUnread 0x4C ∷ []
+unfolding applied obey system scannedBy recordedBy result firstClosed
+over-the-unread = refl
+
+pub after-the-read : records (key ∷ key ∷ told ReadKey ∷ other ∷ other ∷ []) ≡ nothing ∷ keyCode 0x4B ∷ nothing ∷ keyCode 0x4C ∷ []
+unfolding applied obey system readKey scannedBy recordedBy result firstClosed
+after-the-read = refl
+
+pub same-key-unread : records (key ∷ key ∷ empty ∷ empty ∷ empty ∷ key ∷ key ∷ []) ≡ nothing ∷ keyCode 0x4B ∷ nothing ∷ releaseNoted ∷ nothing ∷ nothing ∷ overUnread 0x4B ∷ []
+unfolding applied obey system scannedBy recordedBy result firstClosed
+same-key-unread = refl

@@ -7,6 +7,7 @@ pub mod Valid
 pub mod Quiet
 pub mod OneScan
 pub mod Meanings
+pub mod Lost
 pub mod Once
 pub mod Again
 pub mod Cases

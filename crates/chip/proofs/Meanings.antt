@@ -1,4 +1,5 @@
 -- C-20: a scan records each of the four things exactly where its meaning holds.
+--     released-bit           bit 6 of a released code is 0
 --     meant                  what a scan records is what it means
 --     one-meaning            no two of the four hold of the same scan
 --     records-exactly        a scan records a thing exactly where that thing's meaning holds
@@ -20,12 +21,12 @@ use Rattle.base.specs.Pick.{pick}
 use Rattle.base.proofs.Picks.{pick-yes, pick-no, pick-cases}
 use Rattle.chip.specs.declared.Chip.{Chip}
 use Rattle.chip.specs.declared.Keys.{Keys}
-use Rattle.chip.specs.Record.{none, withKeys}
+use Rattle.chip.specs.Record.{none}
 use Rattle.chip.specs.Scans.{Recording, nothing, keyCode, overUnread, releaseNoted, codeOf, released, newKey, bothNone, keyed, codeTaken, keysRecord, wakes, scannedAsleep, scannedBy, recordedBy, scanned, recorded, result}
 use Rattle.chip.specs.History.{isKey}
 use Rattle.chip.specs.Meanings.{CodeChanged, BitCleared, Meant}
 use Rattle.chip.proofs.Closed.{result-le}
-use Rattle.chip.proofs.OneScan.{new-key, code-taken}
+use Rattle.chip.proofs.OneScan.{by-scan, new-key, code-taken}
 
 -- ---- bit 6
 
@@ -34,7 +35,7 @@ key-bit : (a : ℕ) → a < none → bit (codeOf a) 6 ≡ true
 key-bit a h = eq-eqb (codeOf a / 2 ^ 6 % 2 ^ 1) 1 (omega arith)
 
 -- of a released code
-released-bit : (code : ℕ) → bit (released code) 6 ≡ false
+pub released-bit : (code : ℕ) → bit (released code) 6 ≡ false
 released-bit code = go (bit code 6) refl
   where
     go : (t : Bool) → bit code 6 ≡ t → bit (code - 0x40 * bitValue t) 6 ≡ false
@@ -87,16 +88,11 @@ keys-meant r k h = by-key (newKey r k) refl
     by-key false e = by-release (bothNone r k && bit (k .code) 6) refl e
 
 pub meant : (r : ℕ) (c : Chip) → r ≤ none → Meant (recordedBy r c) (c .keys) (scannedBy r c .keys)
-unfolding scannedBy recordedBy
-meant r c h = by-tests (c .settings .sleeping) (c .settings .system .keyb)
-  where
-    by-tests : (sleeping keyb : Bool)
-        → Meant (pick (not sleeping && keyb) (keysRecord r (c .keys)) nothing) (c .keys)
-        (pick sleeping (scannedAsleep r c) (pick keyb (withKeys (keyed r (c .keys)) c) c) .keys)
-    by-tests true keyb =
-        still (c .keys) (scannedAsleep r c .keys) (pick-cases (λ (x : Chip). x .keys .code ≡ c .keys .code) (wakes r) (λ e. refl) (λ e. refl))
-    by-tests false true = keys-meant r (c .keys) h
-    by-tests false false = still (c .keys) (c .keys) refl
+meant r c h =
+    by-scan (λ what d. Meant what (c .keys) (d .keys)) r c
+    (still (c .keys) (scannedAsleep r c .keys) (pick-cases (λ (x : Chip). x .keys .code ≡ c .keys .code) (wakes r) (λ e. refl) (λ e. refl)))
+    (keys-meant r (c .keys) h)
+    (still (c .keys) (c .keys) refl)
 
 -- ---- no two of the four hold of the same scan
 

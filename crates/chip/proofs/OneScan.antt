@@ -1,4 +1,5 @@
 -- What one scan, or two alike, does to a chip that takes scans.
+--     by-scan             what holds of a scan and its record asleep, awake with KEYB on and awake with KEYB off holds of every scan
 --     scanned-on          a scan of a chip awake with KEYB on changes its key record alone
 --     new-key             what a new key is
 --     code-taken          a code that is recorded counts as recorded, over an unread one or not
@@ -24,14 +25,29 @@ use Rattle.base.proofs.Picks.{pick-yes, pick-no, pick-cases}
 use Rattle.chip.specs.declared.Chip.{Chip}
 use Rattle.chip.specs.declared.Keys.{Keys}
 use Rattle.base.specs.Bits.{bit}
+use Rattle.base.specs.Pick.{pick}
 use Rattle.chip.specs.Record.{none, withKeys}
-use Rattle.chip.specs.Scans.{codeOf, released, newKey, bothNone, keyed, wakes, scannedBy, Recording, codeTaken, keysRecord, recordedBy}
+use Rattle.chip.specs.Scans.{codeOf, released, newKey, bothNone, keyed, wakes, scannedAsleep, scannedBy, Recording, nothing, codeTaken, keysRecord, recordedBy}
 use Rattle.chip.specs.History.{isKey}
 
 -- the second test failed
 and-no : (a b : Bool) → b ≡ false → (a && b) ≡ false
 and-no true b e = e
 and-no false b e = refl
+
+-- asleep; awake with KEYB on; awake with KEYB off
+pub by-scan : (P : Recording → Chip → Type 0) (r : ℕ) (c : Chip) → P nothing (scannedAsleep r c)
+    → P (keysRecord r (c .keys)) (withKeys (keyed r (c .keys)) c)
+    → P nothing c
+    → P (recordedBy r c) (scannedBy r c)
+unfolding scannedBy recordedBy
+by-scan P r c asleep on off = go (c .settings .sleeping) (c .settings .system .keyb)
+  where
+    go : (sleeping keyb : Bool)
+        → P (pick (not sleeping && keyb) (keysRecord r (c .keys)) nothing) (pick sleeping (scannedAsleep r c) (pick keyb (withKeys (keyed r (c .keys)) c) c))
+    go true keyb = asleep
+    go false true = on
+    go false false = off
 
 -- awake with KEYB on
 pub scanned-on : (r : ℕ) (c : Chip) → c .settings .sleeping ≡ false → c .settings .system .keyb ≡ true → scannedBy r c ≡ withKeys (keyed r (c .keys)) c

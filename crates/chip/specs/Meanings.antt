@@ -1,8 +1,10 @@
--- What each of the four things that a scan can record means, of the key record before the scan and the one after it. The theorem that
--- a scan records each exactly then is in proofs/Meanings.antt. No contract cites these.
+-- What each of the four things that a scan can record means, of the key record before the scan and the one after it: theorem
+-- `records-exactly` of proofs/Meanings.antt. And which code was recorded last, for that of an unread code that is lost: theorem
+-- `lost-is-last` of proofs/Lost.antt. No contract cites these.
 -- Assumes nothing.
 use mathlib.Core.Path.{_≡_}
 use mathlib.Core.Bool.{true, false}
+use mathlib.Core.List.{List, [], _∷_}
 use Prim.Native.Nat.{ℕ, _<_}
 use Rattle.base.specs.Bits.{bit}
 use Rattle.chip.specs.declared.Keys.{Keys}
@@ -27,3 +29,11 @@ Meant nothing before after = ((code : ℕ) → CodeChanged code before after →
 Meant (keyCode code) before after = CodeChanged code before after × (before .interrupt ≡ false)
 Meant (overUnread code) before after = CodeChanged code before after × (before .interrupt ≡ true)
 Meant releaseNoted before after = BitCleared before after
+
+-- the code that was recorded last, over an unread one or not, or the one given where none was
+abbrev pub lastCode : ℕ → List Recording → ℕ
+lastCode given [] = given
+lastCode given (nothing ∷ rest) = lastCode given rest
+lastCode given (keyCode code ∷ rest) = lastCode code rest
+lastCode given (overUnread code ∷ rest) = lastCode code rest
+lastCode given (releaseNoted ∷ rest) = lastCode given rest

@@ -180,5 +180,6 @@ fn scanned_by(r: u8, chip: Chip) -> AfterScan
 pub fn scanned(bytes: [u8; 8], chip: Chip) -> AfterScan
     ensures { λ t. ⌜ S.leavesOf t ≡ S.scanLeaves bytes chip ⌝ }
 {
-    scanned_by(result(bytes), chip)
+    let r = result(bytes);
+    scanned_by(r, chip)
 }

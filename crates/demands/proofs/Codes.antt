@@ -18,7 +18,7 @@ use Rattle.base.specs.Pick.{pick}
 use Rattle.base.proofs.Picks.{pick-yes, pick-cases}
 use Rattle.chip.specs.declared.Chip.{Chip}
 use Rattle.chip.specs.Record.{Body, bodyOf, none, withKeys}
-use Rattle.chip.specs.Scans.{Recording, nothing, keyCode, overUnread, releaseNoted, result, codeOf, newKey, bothNone, keyed, codeTaken, keysRecord, scannedBy, recordedBy, scanned, recorded}
+use Rattle.chip.specs.Scans.{Recording, nothing, keyCode, overUnread, releaseNoted, result, codeOf, newKey, bothNone, keyed, codeTaken, scannedBy, recordedBy, scanned, recorded}
 use Rattle.chip.specs.History.{Step, told, scan, after, recordsOf, isKey, countOf, times, resultsOf, Each}
 use Rattle.chip.proofs.OneScan.{scanned-on, code-taken, keyed-code, none-not-new, address-not-none}
 use Rattle.chip.proofs.Once.{once, once-broken}

@@ -2,14 +2,14 @@
 -- Assumes nothing.
 use mathlib.Core.Path.{_≡_, ap, sym, _∙_}
 use mathlib.Core.Bool.{Bool, true, false, _&&_}
-use Prim.Native.Nat.{ℕ, _-_, _*_, _%_}
+use Prim.Native.Nat.{ℕ, _-_, _*_}
 use native.Mathlib.Nat.{sub-zero}
 use native.Mathlib.Omega.{arith}
 use borrow.Author.Tests.{eq-eqb, ne-eqb}
 use Rattle.base.specs.Pick.{pick}
 use Rattle.base.specs.Bits.{cut, bit, bitValue}
 use Rattle.base.proofs.Picks.{pick-yes, pick-no}
-use Rattle.chip.specs.Scans.{newKey, bothNone, codeOf, released, keyed, keysRecord, Recording, nothing, releaseNoted}
+use Rattle.chip.specs.Scans.{newKey, bothNone, codeOf, released, keyed, keysRecord, nothing, releaseNoted}
 use Rattle.chip.specs.declared.Keys.{Keys}
 use borrow.Author.Needs.{needs}
 use Rattle.chip.proofs.scans.keyed.Statement.{statement}
@@ -52,11 +52,12 @@ returns-4 c =
     let e = sym (c .before .before .before .before .before .before .before .is-new-key .ensures) ∙ c .before .before .before .before .before .before .if1 .left in
     let n : bothNone (a .r) (a .keys) ≡ true = simp (eq-eqb (a .r) 64 (c .before .before .before .before .before .if2 .left), eq-eqb (a .keys .last) 64 (c .before .before .before .if3 .left)) in
     let zero : cut (a .keys .code) 6 1 ≡ 0 = sym (c .before .field .ensures) ∙ c .if4 .taken in
-    let clear : bit (a .keys .code) 6 ≡ false = ne-eqb (cut (a .keys .code) 6 1) 1 (λ q. omega arith) in
-    (kept (a .r) (a .keys)
-      (sym (sub-zero (a .keys .code)) ∙ ap (λ (t : Bool). a .keys .code - 64 * bitValue t) (sym clear) ∙ sym (pick-no _ _ e ∙ pick-yes _ _ n))
-      (sym (pick-no _ _ e)),
-      no-key (a .r) (a .keys) e (λ i. n i && clear i))
+    let clear : bit (a .keys .code) 6 ≡ false = ne-eqb (cut (a .keys .code) 6 1) 1 (λ q. omega arith) in (
+      kept (a .r) (a .keys)
+          (sym (sub-zero (a .keys .code)) ∙ ap (λ (t : Bool). a .keys .code - 64 * bitValue t) (sym clear) ∙ sym (pick-no _ _ e ∙ pick-yes _ _ n))
+          (sym (pick-no _ _ e)),
+      no-key (a .r) (a .keys) e (λ i. n i && clear i),
+    )
 
 returns-5 : tie.Need-returns-5
 returns-5 c =
@@ -64,9 +65,10 @@ returns-5 c =
     let e = sym (c .before .before .before .before .before .before .before .before .is-new-key .ensures) ∙ c .before .before .before .before .before .before .before .if1 .left in
     let n : bothNone (a .r) (a .keys) ≡ true = simp (eq-eqb (a .r) 64 (c .before .before .before .before .before .before .if2 .left), eq-eqb (a .keys .last) 64 (c .before .before .before .before .if3 .left)) in
     let one : cut (a .keys .code) 6 1 ≡ 1 = omega (arith, c .before .before .field .ensures, c .before .if4 .left) in
-    let set : bit (a .keys .code) 6 ≡ true = eq-eqb (cut (a .keys .code) 6 1) 1 one in
-    (kept (a .r) (a .keys) (ap (λ (t : Bool). a .keys .code - 64 * bitValue t) (sym set) ∙ sym (pick-no _ _ e ∙ pick-yes _ _ n)) (sym (pick-no _ _ e)),
-      no-key (a .r) (a .keys) e (λ i. n i && set i))
+    let set : bit (a .keys .code) 6 ≡ true = eq-eqb (cut (a .keys .code) 6 1) 1 one in (
+      kept (a .r) (a .keys) (ap (λ (t : Bool). a .keys .code - 64 * bitValue t) (sym set) ∙ sym (pick-no _ _ e ∙ pick-yes _ _ n)) (sym (pick-no _ _ e)),
+      no-key (a .r) (a .keys) e (λ i. n i && set i),
+    )
 
 pub keyed-spec : {M : Type 1} → statement M
 keyed-spec =

@@ -21,16 +21,18 @@ awake sleeping e f = λ i. not (e i) && f i
 returns : tie.Need-returns
 unfolding Rattle.chip.specs.Scans.scannedBy Rattle.chip.specs.Scans.recordedBy
 returns c =
-    let a = c .before .before .before .before .args in
-    (sym (pick-yes _ _ (c .before .before .before .if1 .taken) ∙ pick-yes _ _ (lt-ltb _ _ (c .before .before .if2 .taken))),
-      sym (pick-no _ _ (asleep (a .chip .settings .sleeping) (a .chip .settings .system .keyb) (c .before .before .before .if1 .taken))))
+    let a = c .before .before .before .before .args in (
+      sym (pick-yes _ _ (c .before .before .before .if1 .taken) ∙ pick-yes _ _ (lt-ltb _ _ (c .before .before .if2 .taken))),
+      sym (pick-no _ _ (asleep (a .chip .settings .sleeping) (a .chip .settings .system .keyb) (c .before .before .before .if1 .taken))),
+    )
 
 returns-2 : tie.Need-returns-2
 unfolding Rattle.chip.specs.Scans.scannedBy Rattle.chip.specs.Scans.recordedBy
 returns-2 c =
-    let a = c .before .before .args in
-    (sym (pick-yes _ _ (c .before .if1 .taken) ∙ pick-no _ _ (le-ltb _ _ (c .if2 .left))),
-      sym (pick-no _ _ (asleep (a .chip .settings .sleeping) (a .chip .settings .system .keyb) (c .before .if1 .taken))))
+    let a = c .before .before .args in (
+      sym (pick-yes _ _ (c .before .if1 .taken) ∙ pick-no _ _ (le-ltb _ _ (c .if2 .left))),
+      sym (pick-no _ _ (asleep (a .chip .settings .sleeping) (a .chip .settings .system .keyb) (c .before .if1 .taken))),
+    )
 
 returns-3 : tie.Need-returns-3
 unfolding Rattle.chip.specs.Scans.scannedBy Rattle.chip.specs.Scans.recordedBy
@@ -44,9 +46,10 @@ unfolding Rattle.chip.specs.Scans.scannedBy Rattle.chip.specs.Sc
 returns-4 c =
     let a = c .before .before .before .before .before .before .args in
     let e = c .before .before .before .before .before .if1 .left in
-    let on = not-false (a .chip .settings .system .keyb) (c .before .before .before .if3 .left) in
-    (ap (λ (k : Keys). withKeys k (a .chip)) (c .before .keyed .ensures .0) ∙ sym (pick-no _ _ e ∙ pick-yes _ _ on),
-      c .before .keyed .ensures .1 ∙ sym (pick-yes _ _ (awake (a .chip .settings .sleeping) e on)))
+    let on = not-false (a .chip .settings .system .keyb) (c .before .before .before .if3 .left) in (
+      ap (λ (k : Keys). withKeys k (a .chip)) (c .before .keyed .ensures .0) ∙ sym (pick-no _ _ e ∙ pick-yes _ _ on),
+      c .before .keyed .ensures .1 ∙ sym (pick-yes _ _ (awake (a .chip .settings .sleeping) e on)),
+    )
 
 pub scanned-by-spec : {M : Type 1} → statement M
 scanned-by-spec =
