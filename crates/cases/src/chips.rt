@@ -254,7 +254,7 @@ fn keys() {
     put(b"code ");
     put_byte(pressed.keys.code);
     put(b"; released: ");
-    let free = scan(scan(pressed, 0, 0), 0, 0);
+    let free = scan(scan(scan(pressed, 0, 0), 0, 0), 0, 0);
     put(b"code ");
     put_byte(free.keys.code);
     line_end();
