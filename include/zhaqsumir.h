@@ -154,7 +154,8 @@ void zhaqsumir_find(unsigned char levels, const unsigned char *samples, unsigned
  * out: ZHAQSUMIR_REPLAY_ROOM bytes, 1,179,661: too many for most stacks, and no text writes more. Lines of the same kind are
  * written from its front: for each LOAD rise and chip from 0 up 10, chip, word (two bytes, high first); for each recorded key 11,
  * chip, code, or 12, chip, code where an interrupt stood before the scan: the chip still held a code that no read key had fetched, and
- * that code, the one of this chip's last line 11 or 12, is lost; at a refusal 1F, number, line (four bytes, high first), and no more.
+ * that code, the one of this chip's line 11 or 12 before it, is lost; at a refusal 1F, number, line (four bytes, high first), and no
+ * more.
  * A key that is let go writes nothing. The rest of out keeps what it holds; no byte 0 is set after the last line.
  * answer: the refusal that the text ended in, or 0; the number of the refused line from 1, or 0; the bytes written.
  * Refused: LONG_TEXT (11), with no line number, and out holds the line 1F0B00000000 alone. BAD_LINE (10), with the line number, and

@@ -72,8 +72,8 @@ def key_of(code):
 
 def explained(lines, refused):
     """The lines of `replay` and their meanings. What is lost where a code is recorded over an unread one is the code that the same chip
-    recorded last: an interrupt stands from a record on, until it is read or cleared."""
-    unread = {}
+    recorded last (theorem `lost-is-last`): an interrupt stands from a record on, until it is read or cleared."""
+    last_code = {}
     for line in lines:
         frame = bytes.fromhex(line)
         if frame[0] == 0x10:
@@ -82,8 +82,8 @@ def explained(lines, refused):
             chip, code = frame[1], frame[2]
             text = "chip %d: %s recorded, code %02XH" % (chip, key_of(code), code)
             if frame[0] == 0x12:
-                text += "; the unread code %02XH of %s is lost" % (unread[chip], key_of(unread[chip]))
-            unread[chip] = code
+                text += "; the unread code %02XH of %s is lost" % (last_code[chip], key_of(last_code[chip]))
+            last_code[chip] = code
         else:
             text = refused
         yield "%-8s    %s" % (line, text)

@@ -10,7 +10,7 @@ ghost use Rattle.capture.specs.Replay.{Replays};
 
 // What is written at each LOAD rise and at each scan.
 pub enum Report {
-    // 10 chip word at a rise, 11 chip code at a recorded key, 12 where it overwrote an unread one.
+    // 10 chip word at a rise; 11 chip code at a recorded key, or 12 in place of 11 where an unread code was overwritten.
     Words,
     // 30 chip and the segments lit, at a rise, and at a scan that changes them.
     Screen,

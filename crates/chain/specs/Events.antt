@@ -77,7 +77,7 @@ abbrev pub recordsIn : ℕ → ℕ → List Event → Chain → List Recording
 recordsIn k n [] ch = []
 recordsIn k n (e ∷ es) ch = recordsAt k e ch ++ recordsIn k n es (happens n e ch)
 
--- the codes among them, whatever they are, over unread ones or not: what the till gets of chip k
+-- the codes among them, whatever they are, over unread ones or not: all that the till can get of chip k
 abbrev pub codesIn : List Recording → List ℕ
 codesIn [] = []
 codesIn (nothing ∷ rest) = codesIn rest

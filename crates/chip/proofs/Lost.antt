@@ -1,6 +1,7 @@
 -- C-20: which code is lost where one is recorded over an unread one.
---     unread-is-last    where an interrupt stands after a history, the code held is the one that was recorded last, but for bit 6
---     lost-is-last      so what a scan overwrites is that code, or that of the same key let go
+--     unread-is-last    where an interrupt stands after a history, the code held is, but for bit 6, the one that was recorded last, or the
+--                       one given, if that is so at the start
+--     lost-is-last      after a history from a chip without an interrupt, what a scan overwrites is, but for bit 6, the code recorded last
 -- Assumes nothing.
 use mathlib.Core.Path.{_≡_, refl, ap, sym, subst, _∙_}
 use mathlib.Core.Bool.{Bool, true, false, _&&_, false≢true}
@@ -27,7 +28,7 @@ Unread code k = k .interrupt ≡ true → released (k .code) ≡ released code
 
 -- ---- commands
 
--- a command after which an interrupt stands left the interrupt and the code as they were
+-- a command keeps this: one after which an interrupt stands changed neither interrupt nor code
 obey-unread : (command : Command) (c : Chip) (code : ℕ) → Unread code (c .keys) → Unread code (obey command c .keys)
 unfolding obey reset system readKey
 obey-unread NoOperation c code u = u
@@ -94,7 +95,7 @@ unread-is-last (scan bytes ∷ h) c given u =
     subst (λ code. Unread code (after h (scanned bytes c) .keys)) (sym (last-more given (recorded bytes c) (recordsOf h (scanned bytes c))))
     (unread-is-last h (scanned bytes c) (lastCode given (recorded bytes c ∷ [])) (scan-unread (result bytes) c given u))
 
--- whatever is given for a history that records nothing: where a code is recorded over an unread one, one was recorded before
+-- for every code given: so one was recorded in the history, and it is never the one given
 pub lost-is-last : (h : List Step) (c : Chip) → c .keys .interrupt ≡ false → (bytes : List ℕ) (code : ℕ) → recorded bytes (after h c) ≡ overUnread code
     → (given : ℕ) → released (after h c .keys .code) ≡ released (lastCode given (recordsOf h c))
 lost-is-last h c none bytes code over given =

@@ -150,7 +150,7 @@ module _ (bytes : List ℕ) (c : Chip) (code : ℕ) where
   counted (overUnread other) e m = subst (λ x. CodeChanged x (c .keys) (scanned bytes c .keys)) (eqb-true other code e) (m .0)
   counted releaseNoted e m = absurd (false≢true e)
 
-  -- and it counts as one
+  -- where the code changed to it, it is what is recorded
   counts : CodeChanged code (c .keys) (scanned bytes c .keys) → (stood : Bool) → c .keys .interrupt ≡ stood → recorded bytes c ≡ codeTaken stood code
   counts p true e = records-exactly bytes c (overUnread code) .1 (p, e)
   counts p false e = records-exactly bytes c (keyCode code) .1 (p, e)

@@ -21,11 +21,11 @@ use Prim.Native.Nat.{ℕ, _<_}
 use native.Mathlib.Omega.{arith}
 use lib.Dec.{eqb}
 use borrow.Author.Tests.{eq-eqb, ne-eqb, eqb-true, eqb-false, not-true}
+use Rattle.base.specs.Bits.{bit}
+use Rattle.base.specs.Pick.{pick}
 use Rattle.base.proofs.Picks.{pick-yes, pick-no, pick-cases}
 use Rattle.chip.specs.declared.Chip.{Chip}
 use Rattle.chip.specs.declared.Keys.{Keys}
-use Rattle.base.specs.Bits.{bit}
-use Rattle.base.specs.Pick.{pick}
 use Rattle.chip.specs.Record.{none, withKeys}
 use Rattle.chip.specs.Scans.{codeOf, released, newKey, bothNone, keyed, wakes, scannedAsleep, scannedBy, Recording, nothing, codeTaken, keysRecord, recordedBy}
 use Rattle.chip.specs.History.{isKey}

@@ -87,7 +87,7 @@ scannedBy r c =
 abbrev pub codeTaken : Bool → ℕ → Recording
 codeTaken stood code = pick stood (overUnread code) (keyCode code)
 
--- what a scan with a result records on a chip that is awake with KEYB on: a new key's code; release, where bit 6 is there to be cleared
+-- on a chip that is awake with KEYB on: a new key's code; release, where both are none and bit 6 is 1; else nothing
 abbrev pub keysRecord : ℕ → Keys → Recording
 keysRecord r k =
     pick (newKey r k) (codeTaken (k .interrupt) (codeOf r))

@@ -63,7 +63,7 @@ pub enum Recorded {
     Nothing,
     // A key's code, 40H + its address.
     Key(u8),
-    // The same over an unread code: an interrupt stood.
+    // The same over an unread code: an interrupt stood before the scan.
     OverUnread(u8),
     // Release noted: bit 6 of the code went from 1 to 0.
     Released,
