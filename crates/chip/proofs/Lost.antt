@@ -12,13 +12,13 @@ use Rattle.base.specs.Bits.{bit, bitValue}
 use Rattle.base.specs.Pick.{pick}
 use Rattle.base.proofs.Picks.{pick-cases}
 use Rattle.word.specs.declared.Command.{Command}
-use Rattle.word.specs.declared.Command.the-variants.{NoOperation, BarLevel, SegmentClear, SegmentSet, Reset, Sleep, ShiftLeft, ShiftRight, RotateLeft, RotateRight, CustomCharacter, SystemParameters, DisplayParameters, BlinkByte, ReadKey, LoadDigit}
 use Rattle.chip.specs.declared.Chip.{Chip}
 use Rattle.chip.specs.declared.Keys.{Keys}
-use Rattle.chip.specs.Commands.{applied, obey, reset, system, readKey, woken}
+use Rattle.chip.specs.Commands.{applied, woken}
 use Rattle.chip.specs.Scans.{Recording, nothing, keyCode, overUnread, releaseNoted, released, newKey, bothNone, keyed, keysRecord, codeTaken, codeOf, wakes, scannedBy, recordedBy, scanned, recorded, result}
 use Rattle.chip.specs.History.{Step, told, scan, after, recordsOf}
 use Rattle.chip.specs.Meanings.{lastCode}
+use Rattle.chip.proofs.Quiet.{obey-keys}
 use Rattle.chip.proofs.OneScan.{by-scan}
 use Rattle.chip.proofs.Meanings.{released-bit, records-exactly}
 
@@ -29,28 +29,10 @@ Unread code k = k .interrupt ≡ true → released (k .code) ≡ released code
 -- ---- commands
 
 -- a command keeps this: one after which an interrupt stands changed neither interrupt nor code
-obey-unread : (command : Command) (c : Chip) (code : ℕ) → Unread code (c .keys) → Unread code (obey command c .keys)
-unfolding obey reset system readKey
-obey-unread NoOperation c code u = u
-obey-unread (BarLevel level) c code u = u
-obey-unread (SegmentClear addr) c code u = u
-obey-unread (SegmentSet addr) c code u = u
-obey-unread Reset c code u = λ e. absurd (false≢true e)
-obey-unread Sleep c code u = u
-obey-unread ShiftLeft c code u = u
-obey-unread ShiftRight c code u = u
-obey-unread RotateLeft c code u = u
-obey-unread RotateRight c code u = u
-obey-unread (CustomCharacter shape) c code u = u
-obey-unread (SystemParameters s) c code u = pick-cases (λ (x : Chip). Unread code (x .keys)) (s .keyb) (λ e. u) (λ e f. absurd (false≢true f))
-obey-unread (DisplayParameters d) c code u = u
-obey-unread (BlinkByte byte) c code u = u
-obey-unread ReadKey c code u = pick-cases (λ (x : Chip). Unread code (x .keys)) (c .settings .system .keyb) (λ e f. absurd (false≢true f)) (λ e. u)
-obey-unread (LoadDigit dig byte) c code u = u
-
 applied-unread : (command : Command) (c : Chip) (code : ℕ) → Unread code (c .keys) → Unread code (applied command c .keys)
 unfolding applied
-applied-unread command c code u = obey-unread command (woken c) code u
+applied-unread command c code u =
+    obey-keys (Unread code) command (woken c) u (λ r e. absurd (false≢true e)) (λ last e. absurd (false≢true e))
 
 -- ---- scans
 

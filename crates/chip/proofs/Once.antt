@@ -17,6 +17,7 @@ use Rattle.chip.specs.Record.{none}
 use Rattle.chip.specs.Commands.{applied, obey, system, readKey, woken}
 use Rattle.chip.specs.Scans.{result, codeOf, newKey, bothNone, scanned, recorded}
 use Rattle.chip.specs.History.{Step, told, scan, isKey, times, NoReset, OneKey, Undisturbing, Undisturbed, resultsOf, FirstClosed, BrokenPress}
+use Rattle.chip.proofs.Quiet.{obey-keys}
 use Rattle.chip.proofs.OneScan.{scanned-on, recorded-new, not-recorded, keyed-code, scanned-code, held-not-new, none-not-new, address-not-none, last-not-none}
 
 -- ---- at most once, in general
@@ -54,30 +55,10 @@ module _ (code : ℕ) (P : List Step → Type 0) (Held : List Step → Chip → 
 
 -- ---- a code that is held
 
--- a command other than reset leaves the code as it is
-obey-code : (command : Command) (c : Chip) → (command ≡ Reset → ⊥) → obey command c .keys .code ≡ c .keys .code
-unfolding obey system readKey
-obey-code NoOperation c n = refl
-obey-code (BarLevel level) c n = refl
-obey-code (SegmentClear addr) c n = refl
-obey-code (SegmentSet addr) c n = refl
-obey-code Reset c n = absurd (n refl)
-obey-code Sleep c n = refl
-obey-code ShiftLeft c n = refl
-obey-code ShiftRight c n = refl
-obey-code RotateLeft c n = refl
-obey-code RotateRight c n = refl
-obey-code (CustomCharacter shape) c n = refl
-obey-code (SystemParameters s) c n = pick-cases (λ (x : Chip). x .keys .code ≡ c .keys .code) (s .keyb) (λ e. refl) (λ e. refl)
-obey-code (DisplayParameters d) c n = refl
-obey-code (BlinkByte byte) c n = refl
-obey-code ReadKey c n = pick-cases (λ (x : Chip). x .keys .code ≡ c .keys .code) (c .settings .system .keyb) (λ e. refl) (λ e. refl)
-obey-code (LoadDigit dig byte) c n = refl
-
--- so does a command applied directly
+-- a command other than reset, applied directly, leaves the code as it is
 applied-code : (command : Command) (c : Chip) → (command ≡ Reset → ⊥) → applied command c .keys .code ≡ c .keys .code
 unfolding applied
-applied-code command c n = obey-code command _ n
+applied-code command c n = obey-keys (λ k. k .code ≡ c .keys .code) command (woken c) refl (λ e. absurd (n e)) (λ last. refl)
 
 -- ---- the result stays one key
 

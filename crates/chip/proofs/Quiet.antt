@@ -7,6 +7,7 @@
 --     body-word          so it does for whatever a LOAD rise finds in the register
 --     body-scanned       so it does for a scan
 --     recorded-body      so does what a scan records
+--     obey-keys          what holds of the key record as it was, of a reset one and of one whose interrupt was cleared holds after any command
 --     loaded-register    a LOAD rise leaves the register as it is
 --     obeyed-register    so the register after a LOAD rise is the word that the rise obeyed
 --     loaded-latch       and the latch
@@ -19,13 +20,14 @@ use mathlib.Core.Bool.{Bool, true, false}
 use Prim.Native.Nat.{ℕ}
 use Rattle.base.specs.Pick.{pick}
 use Rattle.base.specs.Refusals.{Told, done, refused}
-use Rattle.base.proofs.Picks.{pick-yes, pick-no}
+use Rattle.base.proofs.Picks.{pick-yes, pick-no, pick-cases}
 use Rattle.word.specs.Words.{decodedOf}
 use Rattle.word.specs.declared.Command.{Command}
 use Rattle.word.specs.declared.Command.the-variants.{NoOperation, BarLevel, SegmentClear, SegmentSet, Reset, Sleep, ShiftLeft, ShiftRight, RotateLeft, RotateRight, CustomCharacter, SystemParameters, DisplayParameters, BlinkByte, ReadKey, LoadDigit}
 use Rattle.chip.specs.declared.LineParts.{LineParts}
 use Rattle.chip.specs.declared.Chip.{Chip}
-use Rattle.chip.specs.Record.{Body, bodyOf, none, withKeys, withSleeping, withLine}
+use Rattle.chip.specs.declared.Keys.{Keys}
+use Rattle.chip.specs.Record.{Body, bodyOf, none, resetKeys, withKeys, withSleeping, withLine}
 use Rattle.chip.specs.Commands.{applied, appliedWord, obey, woken, reset, system, readKey, dout}
 use Rattle.chip.specs.Edges.{loaded, stepped, clocked, loadRises}
 use Rattle.chip.specs.Scans.{scannedBy, recordedBy, wakes, keyed}
@@ -101,6 +103,30 @@ body-scanned r =
 pub recorded-body : (r : ℕ) (c d : Chip) → bodyOf c ≡ bodyOf d → recordedBy r c ≡ recordedBy r d
 unfolding recordedBy
 recorded-body r = by-body (λ (x : Chip). recordedBy r x) (λ l x. refl)
+
+-- ---- what a command can do to the key record
+
+-- a reset makes it anew; KEYB 0 and a read key clear the interrupt and leave the code; every other command leaves it
+pub obey-keys : (P : Keys → Type 0) (command : Command) (c : Chip) → P (c .keys) → (command ≡ Reset → P resetKeys)
+    → ((last : ℕ) → P (record { code = c .keys .code; interrupt = false; last = last }))
+    → P (obey command c .keys)
+unfolding obey reset system readKey
+obey-keys P NoOperation c same anew cleared = same
+obey-keys P (BarLevel level) c same anew cleared = same
+obey-keys P (SegmentClear addr) c same anew cleared = same
+obey-keys P (SegmentSet addr) c same anew cleared = same
+obey-keys P Reset c same anew cleared = anew refl
+obey-keys P Sleep c same anew cleared = same
+obey-keys P ShiftLeft c same anew cleared = same
+obey-keys P ShiftRight c same anew cleared = same
+obey-keys P RotateLeft c same anew cleared = same
+obey-keys P RotateRight c same anew cleared = same
+obey-keys P (CustomCharacter shape) c same anew cleared = same
+obey-keys P (SystemParameters s) c same anew cleared = pick-cases (λ (x : Chip). P (x .keys)) (s .keyb) (λ e. same) (λ e. cleared none)
+obey-keys P (DisplayParameters d) c same anew cleared = same
+obey-keys P (BlinkByte byte) c same anew cleared = same
+obey-keys P ReadKey c same anew cleared = pick-cases (λ (x : Chip). P (x .keys)) (c .settings .system .keyb) (λ e. cleared (c .keys .last)) (λ e. same)
+obey-keys P (LoadDigit dig byte) c same anew cleared = same
 
 -- ---- what a LOAD rise leaves of the line parts
 
