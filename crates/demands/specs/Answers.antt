@@ -53,7 +53,8 @@ AnyDisplay =
 
 -- ---- 2: how many codes one press gives
 
--- of chip k of any chain, whatever is played and whatever other chips are scanned: under premises on its history the till gets such codes
+-- of chip k of any chain, whatever is played and whatever other chips are scanned: under premises on its history such codes are recorded,
+-- and the till can get no others
 abbrev Codes : (ℕ → List Step → Type 0) → ((n k a : ℕ) → Chain → List Event → Type 0) → Type 0
 Codes Premise Holds =
     (n k a : ℕ) (ch : Chain)
