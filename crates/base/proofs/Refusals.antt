@@ -7,9 +7,9 @@ use mathlib.Core.List.{List, [], _∷_}
 use lib.ListN.{getD}
 use Rattle.base.specs.Refusals.{numberOf, placeOf}
 use Rattle.base.specs.declared.Refusal.{Refusal}
-use Rattle.base.specs.declared.Refusal.the-variants.{Sample, ScanChip, ChipCount, PartRow, Rows, Unlisted, Keypad, Room, Field, Line, Text, Record}
+use Rattle.base.specs.declared.Refusal.the-variants.{Sample, ScanChip, ChipCount, PartRow, Rows, Unlisted, Keypad, Room, Field, Line, Text, Record, Count}
 
--- the refusals by their numbers, from 0 up; there is none with the number 0, and the last stands for every number past it
+-- the refusals by their numbers, from 0 up; there is none with the numbers 0 and 13 to 15, and 16 stands for every number from there on
 abbrev by-number : List (ℕ → Refusal)
 by-number =
     (λ place. Record)
@@ -24,11 +24,15 @@ by-number =
     ∷ (λ place. Field)
     ∷ Line
     ∷ (λ place. Text)
+    ∷ (λ place. Record)
+    ∷ (λ place. Record)
+    ∷ (λ place. Record)
+    ∷ (λ place. Record)
     ∷ []
 
 -- the refusal with a number and a place
 pub refusalOf : ℕ → ℕ → Refusal
-refusalOf number place = getD by-number number (λ place. Record) place
+refusalOf number place = getD by-number number Count place
 
 pub number-small : (e : Refusal) → numberOf e < 256
 number-small (Sample place) = omega arith
@@ -43,6 +47,7 @@ number-small Field = omega arith
 number-small (Line place) = omega arith
 number-small Text = omega arith
 number-small Record = omega arith
+number-small (Count place) = omega arith
 
 pub refusal-back : (e : Refusal) → refusalOf (numberOf e) (placeOf e) ≡ e
 unfolding refusalOf
@@ -58,3 +63,4 @@ refusal-back Field = refl
 refusal-back (Line place) = refl
 refusal-back Text = refl
 refusal-back Record = refl
+refusal-back (Count place) = refl

@@ -15,6 +15,11 @@ abbrev pub count : (ℕ → Bool) → ℕ → ℕ
 count f zero = 0
 count f (suc n) = bitValue (f n) + count f n
 
+-- the sum over the numbers below n
+abbrev pub sumBelow : (ℕ → ℕ) → ℕ → ℕ
+sumBelow f zero = 0
+sumBelow f (suc n) = f n + sumBelow f n
+
 -- a claim of each number below n
 abbrev pub EachBelow {ℓ} : (ℕ → Type ℓ) → ℕ → Type ℓ
 EachBelow P zero = Unit

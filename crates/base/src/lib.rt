@@ -28,8 +28,10 @@ pub enum Refusal {
     Line(u64),
     // 11: the text is longer than 65,536 bytes.
     Text,
-    // 12: a chip record or the levels hold what no chip can.
+    // 12: a chip record or the levels hold what no chip can; so is a tally of captures with more chips than there can be.
     Record,
+    // 16: a count of a tally has no room for a line's samples and scans; the line's number from 1.
+    Count(u64),
 }
 
 // What an entry says that hands a value back: it did what was asked, or it refused and changed nothing.
@@ -55,6 +57,7 @@ pub fn number(e: Refusal) -> u64
         Refusal::Line(_) => 10,
         Refusal::Text => 11,
         Refusal::Record => 12,
+        Refusal::Count(_) => 16,
     }
 }
 
@@ -75,6 +78,7 @@ pub fn place(e: Refusal) -> u64
         Refusal::Line(at) => at,
         Refusal::Text => 0,
         Refusal::Record => 0,
+        Refusal::Count(at) => at,
     }
 }
 
