@@ -5,6 +5,8 @@ pub mod Tested
 pub mod Laws
 pub mod Shift
 pub mod Clocks
+pub mod Places
+pub mod Histories
 pub mod Unique
 pub mod Passed
 pub mod Still

@@ -46,7 +46,7 @@ use Rattle.demands.specs.Calls.{Call, play, scan, eventsOf, blocksOf, Ra
 use Rattle.demands.proofs.Writes.{Writes}
 use Rattle.demands.proofs.Going.{Going, rowsLeft, going-on}
 use Rattle.demands.proofs.Demand3 as Three
-use Rattle.demands.proofs.Corollaries.{happened-append}
+use Rattle.chain.proofs.Histories.{happened-append}
 use Rattle.demands.proofs.Entries.{going-tested, play-happens, scan-happens}
 
 -- ---- the buffer

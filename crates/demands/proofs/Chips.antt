@@ -1,6 +1,4 @@
 -- What one event does to each chip of a chain, and to its line parts.
---     part-at            lists of chips alike in a part are alike in it at each place
---     obeys-at           at a LOAD rise each chip obeys the word that is then in its register
 --     sample-body        at a LOAD rise that finds a row in the registers each chip obeys its word, at any other sample none does
 --     sample-keypad      and if the row is fit, the keypad stays off before the last chip
 --     scan-body          a scan is a step of the chip that it names, and of no other
@@ -15,24 +13,25 @@ use native.Mathlib.Nat.{not-suc-le-zero, le-of-suc-le-suc, zero-lt-suc, lt-of-lt
 use native.Mathlib.Omega.{arith}
 use borrow.Author.Tests.{eqb-true, eqb-false}
 use lib.Dec.{eqb}
-use lib.ListN.{length, getD, take, length-set, List·getD-map}
+use lib.ListN.{length, getD, take, length-set}
 use lib.Seq.{getD-set-same, map-set-same}
 use Rattle.base.specs.Refusals.{Told, done, refused}
 use Rattle.base.proofs.Picks.{pick-cases}
 use Rattle.word.specs.Words.{decodedOf}
 use Rattle.word.specs.declared.Command.{Command}
 use Rattle.chip.specs.declared.Chip.{Chip}
-use Rattle.chip.specs.Record.{Body, bodyOf, resetChip, withLine}
-use Rattle.chip.specs.Commands.{appliedWord, dout}
-use Rattle.chip.specs.Edges.{din, loadRises, clocked, loaded, stepped}
+use Rattle.chip.specs.Record.{Body, bodyOf, resetChip}
+use Rattle.chip.specs.Commands.{appliedWord}
+use Rattle.chip.specs.Edges.{din, loadRises}
 use Rattle.chip.specs.Scans.{result, scanned}
 use Rattle.chip.specs.History.{Step, after}
-use Rattle.chip.proofs.Quiet.{stepped-load, body-word, loaded-register, keyb-scanned, line-scanned}
+use Rattle.chip.proofs.Quiet.{keyb-scanned, line-scanned}
 use Rattle.chain.specs.declared.Chain.{Chain}
-use Rattle.chain.specs.Chain.{steppedRow, steppedChain, KeypadLast}
+use Rattle.chain.specs.Chain.{steppedChain, KeypadLast}
 use Rattle.chain.proofs.Clocks.{heldOf, held}
 use Rattle.chain.specs.Entries.{chipAt, withChip}
 use Rattle.chain.proofs.Laws.{quiet-chain, keypad-kept, one-alone}
+use Rattle.chain.proofs.Places.{part-at, obeys-at}
 use Rattle.chain.proofs.Rest.{row-length}
 use Rattle.chain.specs.Events.{scanAt}
 use Rattle.demands.specs.Events.{wordFor, commandOf, toldAt}
@@ -44,19 +43,6 @@ use Rattle.demands.proofs.Accepted.{Fit, Fits, keyb-applied}
 -- KEYB of a chip
 abbrev keyb : Chip → Bool
 keyb c = c .settings .system .keyb
-
-pub part-at : {A : Type 0} (f : Chip → A) (cs ds : List Chip) (k : ℕ) (d : Chip) → map f cs ≡ map f ds → f (getD cs k d) ≡ f (getD ds k d)
-part-at f cs ds k d e = sym (List·getD-map f cs k d) ∙ ap (λ xs. getD xs k (f d)) e ∙ List·getD-map f ds k d
-
--- what holds of a chip before and after a sample, whatever stands at its DIN, holds at each place
-row-at : (P : Chip → Chip → Type 0) (was now : ℕ) → ((b : Bool) (c : Chip) → P c (stepped was now b c))
-    → (n k : ℕ) (b : Bool) (cs : List Chip) (d : Chip) → k < n → k < length cs
-    → P (getD cs k d) (getD (steppedRow n was now b cs) k d)
-unfolding steppedRow
-row-at P was now each zero k b cs d h l = absurd (not-suc-le-zero h)
-row-at P was now each (suc n) k b [] d h l = absurd (not-suc-le-zero l)
-row-at P was now each (suc n) zero b (c ∷ cs) d h l = each b c
-row-at P was now each (suc n) (suc k) b (c ∷ cs) d h l = row-at P was now each n k (dout c) cs d (le-of-suc-le-suc h) (le-of-suc-le-suc l)
 
 -- the register held at a chip's place is the chip's
 register-at : (n k : ℕ) (cs : List Chip) (d : Chip) → k < n → k < length cs → getD (registersIn (held n cs)) k 0 ≡ getD cs k d .line .register
@@ -83,23 +69,6 @@ keypad-at (suc (suc n)) zero (c ∷ cs) d p h l = p .0
 keypad-at (suc (suc n)) (suc k) (c ∷ cs) d p h l = keypad-at (suc n) k cs d (p .1) (le-of-suc-le-suc h) (le-of-suc-le-suc l)
 
 -- ---- a sample
-
--- at a LOAD rise a chip obeys the word that is then in its register
-obeys : (was now : ℕ) → loadRises was now ≡ true → (b : Bool) (c : Chip)
-    → bodyOf (stepped was now b c) ≡ bodyOf (appliedWord (decodedOf (stepped was now b c .line .register)) c)
-unfolding loaded
-obeys was now e b c =
-    rw (stepped-load was now b c e)
-    (body-word (decodedOf (x .line .register)) x c refl ∙ ap (λ r. bodyOf (appliedWord (decodedOf r) c)) (sym (loaded-register x)))
-  where
-    x : Chip
-    x = withLine (clocked was now b (c .line)) c
-
--- so does each chip of a chain
-pub obeys-at : (n s : ℕ) (ch : Chain) → loadRises (ch .levels) s ≡ true → (k : ℕ) → k < n → k < length (ch .chips)
-    → bodyOf (chipAt k (steppedChain n s ch)) ≡ bodyOf (appliedWord (decodedOf (chipAt k (steppedChain n s ch) .line .register)) (chipAt k ch))
-obeys-at n s ch e k h l =
-    row-at (λ c x. bodyOf x ≡ bodyOf (appliedWord (decodedOf (x .line .register)) c)) (ch .levels) s (obeys (ch .levels) s e) n k (din s) (ch .chips) resetChip h l
 
 -- a fit word is obeyed as its command
 fit-obeyed : (n k : ℕ) (o : Told Command) (c : Chip) → Fit n k o → appliedWord o c ≡ after (commandOf o) c

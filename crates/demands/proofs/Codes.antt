@@ -28,8 +28,7 @@ use Rattle.chain.specs.Entries.{chipAt}
 use Rattle.chain.specs.Events as Events
 use Rattle.chain.specs.Events.{Event, happened, historyOf, recordsIn, codesIn}
 use Rattle.demands.specs.Answers.{AtMostOne, ExactlyOne, OneCode, OneCodeExactly, OneCodeBroken, OneCodeBrokenExactly}
-use Rattle.demands.proofs.Corollaries.{happened-append}
-use Rattle.demands.proofs.Histories.{times-append, history-append, history-body, records-same}
+use Rattle.chain.proofs.Histories.{times-append, happened-append, history-append, history-body, records-same}
 
 -- ---- every code is the key's
 

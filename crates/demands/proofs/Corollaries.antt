@@ -1,7 +1,6 @@
 -- What follows from demand 3, and from what its proof carries along.
 --     own-words           a whole play tells chip k the commands of its words of the rows, each once and in row order, whatever scans fall between
 --     scans-own           and the scans that name it, in order
---     happened-append     events in two parts
 --     no-other-sample     after any events a sample without a LOAD rise changes no chip's settings, display and key record
 --     in-between          after any beginning of a play the chain is valid still, the keypad off before the last chip
 --     premises-again      after a whole play, with any scans, the chain is as demand 3 asks for it, so writes follow one another
@@ -26,14 +25,15 @@ use Rattle.chain.specs.declared.Chain.{Chain}
 use Rattle.chain.specs.Chain.{most, allValid, steppedChain}
 use Rattle.chain.proofs.Clocks.{Held}
 use Rattle.chain.specs.Entries.{chipAt, withChip}
+use Rattle.chain.proofs.Histories.{happened-append}
 use Rattle.chain.proofs.Laws.{quiet-chain}
-use Rattle.chain.specs.Events.{Event, sample, scan, happens, happened, samplesIn, scanAt}
+use Rattle.chain.proofs.Places.{part-at}
+use Rattle.chain.specs.Events.{Event, sample, scan, happened, samplesIn, scanAt}
 use Rattle.writer.specs.Rows.{rowsOf, written}
 use Rattle.demands.specs.Events.{commandOf, wordFor, toldAt, rowsAfter, stepsFor, commandsIn}
 use Rattle.demands.specs.Demand3.{Asked, OwnWords, NoOtherSample, PremisesAgain, scansIn, scansOf}
 use Rattle.demands.proofs.Writes.{AtSample}
 use Rattle.demands.proofs.Accepted.{Fit, Fits}
-use Rattle.demands.proofs.Chips.{part-at}
 use Rattle.demands.proofs.Going.{Going, rowsLeft, going-sample, going-scan, going-on}
 use Rattle.demands.proofs.Demand3.{room, begins}
 
@@ -106,10 +106,6 @@ scans-own k was rows (scan j bytes ∷ es) =
     one false steps = refl
 
 -- ---- at no other sample
-
-pub happened-append : (n : ℕ) (es fs : List Event) (ch : Chain) → happened n (es ++ fs) ch ≡ happened n fs (happened n es ch)
-happened-append n [] fs ch = refl
-happened-append n (e ∷ es) fs ch = happened-append n es fs (happens n e ch)
 
 pub no-other-sample : NoOtherSample
 no-other-sample n ch es s e k =

@@ -1,7 +1,6 @@
 -- The events of demand 3 and the entries of a chain: what happens is what `play` and `scan` do, and neither is refused.
 --     start-asked      a chain as `start` gives it is as demand 3 asks
 --     going-tested     a chain in the middle of a write passes the tests that come first in every entry
---     played-happens   playing samples is what they are as events
 --     play-happens     so `play` leaves what its samples as events leave
 --     scan-happens     and `scan` what its scan as an event leaves
 -- Assumes nothing.
@@ -15,8 +14,9 @@ use Rattle.base.proofs.Tests.{and-left}
 use Rattle.chip.specs.Record.{resetChip}
 use Rattle.chip.specs.Scans.{recorded}
 use Rattle.chain.specs.declared.Chain.{Chain}
-use Rattle.chain.specs.Chain.{most, chipCount, allValid, testedOf, checkedFrom, steppedChain, played, KeypadLast}
+use Rattle.chain.specs.Chain.{most, chipCount, allValid, testedOf, checkedFrom, KeypadLast}
 use Rattle.chain.specs.Entries.{chipAt, startChain, playedOf, scannedOf}
+use Rattle.chain.proofs.Histories.{played-happens}
 use Rattle.chain.proofs.Passed.{tests-pass, start-valid, play-done, scan-done}
 use Rattle.chain.specs.Events.{sample, scan, happened}
 use Rattle.writer.specs.Rows.{listTest}
@@ -52,11 +52,6 @@ pub going-tested : (n : ℕ) (ch : Chain) (rows : List (List ℕ)) (ss : List �
 going-tested n ch rows ss count g = tests-pass n ch count (g .standing .valid)
 
 -- ---- the entries
-
-pub played-happens : (n : ℕ) (ss : List ℕ) (ch : Chain) → played n ss ch ≡ happened n (map sample ss) ch
-unfolding played
-played-happens n [] ch = refl
-played-happens n (s ∷ ss) ch = played-happens n ss (steppedChain n s ch)
 
 pub play-happens : (n : ℕ) (ch : Chain) (ss : List ℕ) → testedOf n ch ≡ done tt → checkedFrom 0 ss ≡ done tt
     → playedOf n ch ss ≡ record { state = happened n (map sample ss) ch; told = done tt }

@@ -40,7 +40,7 @@ use Rattle.demands.specs.Whole.{Encodes, commandFor}
 use Rattle.demands.specs.Answers.{AnyDisplay}
 use Rattle.demands.proofs.Demand3.{demand-3}
 use Rattle.demands.proofs.Corollaries.{own-words, scans-own}
-use Rattle.demands.proofs.Entries.{played-happens}
+use Rattle.chain.proofs.Histories.{played-happens}
 use Rattle.demands.proofs.Whole.{commands-told}
 
 -- ---- commands that any chip may be sent

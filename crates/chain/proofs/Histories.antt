@@ -1,12 +1,13 @@
 -- What happens to a chip of a chain is a history of that chip, whatever is played and scanned.
 --     after-append, records-append, times-append     a history in two parts
---     history-append     and the history of events in two parts
+--     happened-append, history-append     events in two parts, and their histories
+--     played-happens     playing samples is what they are as events
 --     history-body       a chip's settings, display and key record are those after its history
 --     records-same       and its scans record what its history does
 -- Assumes nothing.
 use mathlib.Core.Path.{_≡_, refl, ap, ap₂, sym, subst, _∙_}
 use mathlib.Core.Bool.{Bool, true, false}
-use mathlib.Core.List.{List, [], _∷_, _++_, append-assoc}
+use mathlib.Core.List.{List, [], _∷_, _++_, map, append-assoc}
 use Prim.Native.Nat.{ℕ, _+_, _≤_, _<_}
 use native.Mathlib.Nat.{lt-of-lt-of-le}
 use native.Mathlib.Omega.{arith}
@@ -26,14 +27,14 @@ use Rattle.chip.specs.Edges.{loadRises, din}
 use Rattle.chip.specs.Scans.{result, scanned, recorded}
 use Rattle.chip.specs.History.{Step, told, scan, after, recordsOf, times}
 use Rattle.chip.proofs.Quiet.{body-applied, body-scanned, recorded-body}
 use Rattle.chain.specs.declared.Chain.{Chain}
-use Rattle.chain.specs.Chain.{most, steppedChain}
+use Rattle.chain.specs.Chain.{most, steppedChain, played}
 use Rattle.chain.specs.Entries.{chipAt, withChip}
 use Rattle.chain.proofs.Laws.{quiet-chain, one-alone}
 use Rattle.chain.proofs.Rest.{row-length}
 use Rattle.chain.specs.Events as Events
 use Rattle.chain.specs.Events.{Event, sample, happens, happened, obeyed, stepsAt, historyOf, recordsAt, recordsIn}
-use Rattle.demands.proofs.Chips.{part-at, obeys-at}
+use Rattle.chain.proofs.Places.{part-at, obeys-at}
 
 -- ---- a history in two parts
 
@@ -52,11 +53,25 @@ times-append code [] h c = omega arith
 times-append code (told command ∷ g) h c = times-append code g h (applied command c)
 times-append code (scan bytes ∷ g) h c = let e = times-append code g h (scanned bytes c) in omega arith
 
+-- ---- events in two parts
+
+pub happened-append : (n : ℕ) (es fs : List Event) (ch : Chain) → happened n (es ++ fs) ch ≡ happened n fs (happened n es ch)
+happened-append n [] fs ch = refl
+happened-append n (e ∷ es) fs ch = happened-append n es fs (happens n e ch)
+
 pub history-append : (k n : ℕ) (es fs : List Event) (ch : Chain) → historyOf k n (es ++ fs) ch ≡ historyOf k n es ch ++ historyOf k n fs (happened n es ch)
 history-append k n [] fs ch = refl
 history-append k n (e ∷ es) fs ch =
     ap (λ h. stepsAt k n e ch ++ h) (history-append k n es fs (happens n e ch))
     ∙ sym (append-assoc (stepsAt k n e ch) (historyOf k n es (happens n e ch)) (historyOf k n fs (happened n es (happens n e ch))))
+
+-- playing samples is what they are as events
+pub played-happens : (n : ℕ) (ss : List ℕ) (ch : Chain) → played n ss ch ≡ happened n (map sample ss) ch
+unfolding played
+played-happens n [] ch = refl
+played-happens n (s ∷ ss) ch = played-happens n ss (steppedChain n s ch)
+
+-- ---- bodies
 
 -- what is left of a body after a history depends on the body alone
 pub body-after : (h : List Step) (c d : Chip) → bodyOf c ≡ bodyOf d → bodyOf (after h c) ≡ bodyOf (after h d)
