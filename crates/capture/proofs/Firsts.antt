@@ -1,14 +1,16 @@
 -- The first line of a text: 00 01 N, or refusal 10.
 --     first-cut                          a text with no line that was ended gives no chips
 --     other-count, by-three              a frame that holds other than three bytes, and one that holds three
+--     first-none, first-some, first-ended     a line that gives no number of chips, and one that gives a number
 --     long-out, none-out                 a text too long, and one whose first line gives no chips
 --     Comes                              a text's output and its end
 --     replays-so, piece-room             the output put at the front is what is promised, and has room
 --     replays-counts                     the answer counts bytes at the array's front
---     begun-more, begun-few              chips started: the first line was ended, and there are at most the most
---     begun-out                          and the output and the end are those of the lines after the first
+--     begun-more, begun-lines            chips started: the first line was ended, and the lines after it
+--     begun-first, begun-few             it gives N, at most the most
+--     begun-chain, begun-out             the chain is started, and the output and the end are those of the lines after the first
 -- Assumes nothing.
-use mathlib.Core.Path.{_≡_, refl, ap, ap₂, sym, subst, _∙_}
+use mathlib.Core.Path.{_≡_, refl, ap, sym, subst, _∙_}
 use mathlib.Core.Bool.{Bool, true, false, _&&_}
 use mathlib.Core.List.{List, [], _∷_}
 use Prim.Native.Nat.{ℕ, _+_, _≤_, _<_}
@@ -38,7 +40,7 @@ use Rattle.capture.specs.Frames.{firstOf}
 use Rattle.capture.specs.Parts.{firstIn, chipsIn, Ends}
 use Rattle.capture.specs.Reports.{refusalLine}
 use Rattle.capture.specs.Replay.{linesOut, afterFirst, allOut, outputOf, linesEnd, firstEnd, allEnd, endOf, Replays}
-use Rattle.capture.proofs.Walks.{held-same}
+use Rattle.capture.proofs.EachLine.{held-same}
 
 -- ---- where the first line ends
 
@@ -77,7 +79,7 @@ three-held (a ∷ b ∷ c ∷ more) h = refl
 
 -- ---- by what its frame holds
 
-module _ (text : List ℕ) (end : ℕ) (here : end ≡ lineLength text) (more : end < length text) (f : Frame)
+module _ (text : List ℕ) (end : ℕ) (here : end ≡ 0 + lineLength text) (more : end < length text) (f : Frame)
     (reads : f ≡ frameFor (heldIn (take end text))) (size : length (f .bytes) ≡ 33) where
   holds : Holds f (heldIn (take end text))
   holds = frame-holds (take end text) reads
@@ -85,8 +87,9 @@ module _ (text : List ℕ) (end : ℕ) (here : end ≡ lineLength text) (more : 
   -- the first line says what the frame says
   frame-says : firstIn (linesOf text) ≡ firstOf (heldBy f)
   frame-says =
+      let there : lineLength text ≡ end = omega arith in
       first-next text (omega arith) ∙ sym (first-held (take (lineLength text) text))
-      ∙ ap firstOf (ap (λ m. heldIn (take m text)) (sym here) ∙ sym (holds .front))
+      ∙ ap firstOf (ap (λ m. heldIn (take m text)) there ∙ sym (holds .front))
 
   pub other-count : (f .count ≡ 3 → ⊥) → 0 ≡ chipsIn (firstIn (linesOf text))
   other-count ne =
@@ -124,6 +127,28 @@ first-counted (a ∷ b ∷ []) = refl
 first-counted (a ∷ b ∷ n ∷ []) = all-three (eqb a 0x00) (eqb b 0x01) (chipCount n) n (λ t. t)
 first-counted (a ∷ b ∷ n ∷ c ∷ more) = refl
 
+-- a first line that gives no number of chips is refused with 10; one that gives a number gives 1 to 8
+pub first-none : (l : Line) → chipsIn (firstOf (bytesIn l)) ≡ 0 → (place : ℕ) × (firstOf (bytesIn l) ≡ refused 10 place)
+unfolding Counted
+first-none l e = go (firstOf (bytesIn l)) (first-counted (bytesIn l)) e
+  where
+    go : (t : Told ℕ) → Counted t → chipsIn t ≡ 0 → (place : ℕ) × (t ≡ refused 10 place)
+    go (done n) c z = let h = count-low n c in absurd (omega arith)
+    go (refused number place) c z = (place, ap (λ m. refused m place) c)
+
+pub first-some : (l : Line) → (chipsIn (firstOf (bytesIn l)) ≡ 0 → ⊥)
+    → (firstOf (bytesIn l) ≡ done (chipsIn (firstOf (bytesIn l)))) × T (chipCount (chipsIn (firstOf (bytesIn l))))
+unfolding Counted
+first-some l ne = go (firstOf (bytesIn l)) (first-counted (bytesIn l)) ne
+  where
+    go : (t : Told ℕ) → Counted t → (chipsIn t ≡ 0 → ⊥) → (t ≡ done (chipsIn t)) × T (chipCount (chipsIn t))
+    go (done n) c z = (refl, c)
+    go (refused number place) c z = absurd (z refl)
+
+-- where a number is given, the first line was ended
+pub first-ended : (text : List ℕ) → (chipsIn (firstIn (linesOf text)) ≡ 0 → ⊥) → lineLength text < length text
+first-ended text ne = by-order (length text) (lineLength text) (λ h. absurd (ne (first-cut text h))) (λ h. h)
+
 none-after : (what : Report) (t : Told ℕ) (ls : List Line) → Counted t → chipsIn t ≡ 0
     → (afterFirst what t ls ≡ refusalLine 10 1) × (firstEnd t ls ≡ refused 10 1)
 unfolding Counted
@@ -133,29 +158,6 @@ none-after what (refused number place) ls c e = (ap (λ m. refusalLine m 1) c, a
 none-refused : (what : Report) (ls : List Line) → chipsIn (firstIn ls) ≡ 0 → (allOut what ls ≡ refusalLine 10 1) × (allEnd ls ≡ refused 10 1)
 none-refused what [] e = (refl, refl)
 none-refused what (l ∷ ls) e = none-after what (firstOf (bytesIn l)) ls (first-counted (bytesIn l)) e
-
-some-after : (what : Report) (t : Told ℕ) (ls : List Line) → Counted t → (chipsIn t ≡ 0 → ⊥)
-    → (T (chipCount (chipsIn t))) × (afterFirst what t ls ≡ linesOut what (chipsIn t) 2 startChain ls) × (firstEnd t ls ≡ linesEnd (chipsIn t) 2 ls)
-unfolding Counted
-some-after what (done n) ls c e = (c, refl, refl)
-some-after what (refused number place) ls c e = absurd (e refl)
-
-some-goes-on : (what : Report) (text : List ℕ) → (chipsIn (firstIn (linesOf text)) ≡ 0 → ⊥)
-    → (lineLength text < length text) × (T (chipCount (chipsIn (firstIn (linesOf text)))))
-    × (allOut what (linesOf text) ≡ linesOut what (chipsIn (firstIn (linesOf text))) 2 startChain (linesOf (drop (lineLength text + 1) text)))
-    × (allEnd (linesOf text) ≡ linesEnd (chipsIn (firstIn (linesOf text))) 2 (linesOf (drop (lineLength text + 1) text)))
-some-goes-on what text ne =
-    by-order (length text) (lineLength text) (λ h. absurd (ne (first-cut text h)))
-    (λ h.
-    let e = lines-next text h in
-    let bytes = bytesIn (ended (take (lineLength text) text)) in
-    let rest = linesOf (drop (lineLength text + 1) text) in
-    let s = some-after what (firstOf bytes) rest (first-counted bytes) (λ z. ne (ap (λ ls. chipsIn (firstIn ls)) e ∙ z)) in (
-      h,
-      subst (λ ls. T (chipCount (chipsIn (firstIn ls)))) (sym e) (s .0),
-      ap (allOut what) e ∙ s .1 ∙ ap (λ ls. linesOut what (chipsIn (firstIn ls)) 2 startChain rest) (sym e),
-      ap allEnd e ∙ s .2 ∙ ap (λ ls. linesEnd (chipsIn (firstIn ls)) 2 rest) (sym e),
-    ))
 
 -- ---- the whole
 
@@ -177,11 +179,6 @@ short-out what text h p e = let short = le-leb (length text) 65536 h in (pick-ye
 pub none-out : (what : Report) (text : List ℕ) → length text ≤ 65536 → chipsIn (firstIn (linesOf text)) ≡ 0
     → Comes what text (refusalLine 10 1) (refused 10 1)
 none-out what text h e = let none = none-refused what (linesOf text) e in short-out what text h (none .0) (none .1)
-
-some-out : (what : Report) (text : List ℕ) → length text ≤ 65536 → (chipsIn (firstIn (linesOf text)) ≡ 0 → ⊥)
-    → Comes what text (linesOut what (chipsIn (firstIn (linesOf text))) 2 startChain (linesOf (drop (lineLength text + 1) text)))
-    (linesEnd (chipsIn (firstIn (linesOf text))) 2 (linesOf (drop (lineLength text + 1) text)))
-some-out what text h ne = let s = some-goes-on what text ne in short-out what text h (s .2) (s .3)
 
 -- the output put at the front is what is promised
 pub replays-so : {what : Report} {text : List ℕ} (piece : List ℕ) {end : Told (Unit {0})} {out : List ℕ} {r : Replayed} {out′ : List ℕ}
@@ -209,28 +206,41 @@ replays-counts {what} {text} {out} {r} {out′} fits p =
 
 -- ---- a chain started, and the lines after the first
 
-module _ (what : Report) (text : List ℕ) (end n : ℕ) (h : HandedChain) (fits : length text ≤ 65536) (here : end ≡ lineLength text)
-    (chips : n ≡ chipsIn (firstIn (linesOf text))) (some : n ≡ 0 → ⊥) (start : handedChain h ≡ startedOf n) where
+module _ (text : List ℕ) (end n : ℕ) (h : HandedChain) (here : end ≡ 0 + lineLength text) (chips : n ≡ chipsIn (firstIn (linesOf text)))
+    (some : n ≡ 0 → ⊥) (start : handedChain h ≡ startedOf n) where
   ne : chipsIn (firstIn (linesOf text)) ≡ 0 → ⊥
   ne z = some (chips ∙ z)
 
-  count : T (chipCount n)
-  count = subst (λ m. T (chipCount m)) (sym chips) (some-goes-on what text ne .1)
-
-  started : h .chain ≡ startChain
-  started = ap (λ o. o .state) (start ∙ start-done n count)
+  there : lineLength text ≡ end
+  there = omega arith
 
   pub begun-more : end < length text
-  begun-more = omega (arith, some-goes-on what text ne .0)
+  begun-more = omega (arith, first-ended text ne)
+
+  -- the first line and those after it, and what the first says
+  pub begun-lines : linesOf text ≡ ended (take end text) ∷ linesOf (drop (end + 1) text)
+  begun-lines =
+      lines-next text (first-ended text ne) ∙ ap (λ m. ended (take m text) ∷ linesOf (drop (m + 1) text)) there
+
+  pub begun-first : firstOf (bytesIn (ended (take end text))) ≡ done n
+  begun-first =
+      let same = ap (λ ls. chipsIn (firstIn ls)) begun-lines in
+      first-some (ended (take end text)) (λ z. ne (same ∙ z)) .0 ∙ ap done (sym same ∙ sym chips)
+
+  count : T (chipCount n)
+  count =
+      let same = ap (λ ls. chipsIn (firstIn ls)) begun-lines in
+      subst (λ m. T (chipCount m)) (sym same ∙ sym chips) (first-some (ended (take end text)) (λ z. ne (same ∙ z)) .1)
 
   pub begun-few : n ≤ most
   begun-few = count-high n count
 
-  pub begun-out : Comes what text (linesOut what n 2 (h .chain) (linesOf (drop (end + 1) text))) (linesEnd n 2 (linesOf (drop (end + 1) text)))
-  begun-out =
-      let s = some-out what text fits ne in (
-        s .0
-            ∙ ap₂ (λ m c. linesOut what m 2 c (linesOf (drop (lineLength text + 1) text))) (sym chips) (sym started)
-            ∙ ap (λ m. linesOut what n 2 (h .chain) (linesOf (drop (m + 1) text))) (sym here),
-        s .1 ∙ ap₂ (λ m k. linesEnd m 2 (linesOf (drop (k + 1) text))) (sym chips) (sym here),
-      )
+  pub begun-chain : h .chain ≡ startChain
+  begun-chain = ap (λ o. o .state) (start ∙ start-done n count)
+
+  pub begun-out : (what : Report) → length text ≤ 65536
+      → Comes what text (linesOut what n 2 (h .chain) (linesOf (drop (end + 1) text))) (linesEnd n 2 (linesOf (drop (end + 1) text)))
+  begun-out what fits =
+      short-out what text fits
+      (ap (allOut what) begun-lines ∙ ap (λ t. afterFirst what t (linesOf (drop (end + 1) text))) begun-first ∙ ap (λ c. linesOut what n 2 c (linesOf (drop (end + 1) text))) (sym begun-chain))
+      (ap allEnd begun-lines ∙ ap (λ t. firstEnd t (linesOf (drop (end + 1) text))) begun-first)

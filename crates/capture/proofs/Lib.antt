@@ -1,6 +1,8 @@
 pub mod Reported
 pub mod Samples
 pub mod Forms
+pub mod Read
+pub mod EachLine
 pub mod Walks
 pub mod Firsts
 pub mod Room

@@ -1,6 +1,5 @@
 -- Lines one after another. `Walks` is the loop's invariant: what is left of the text writes what is left of the output, and ends
 -- as the whole does.
---     held-same                          what a frame holds serves as well as the line's bytes
 --     walks-start, walks-over            the loop's start, and the text's end
 --     walks-cut                          a last line without 0AH
 --     walks-count, walks-form            how many bytes a frame holds, and that they are of the line's form
@@ -8,28 +7,21 @@
 --     walks-refused, walks-more          a line that is refused, and one more line
 -- Assumes nothing.
 use mathlib.Core.Path.{_≡_, refl, ap, ap₂, sym, subst, _∙_}
-use mathlib.Core.Bool.{Bool, true, false, _&&_, true≢false}
-use mathlib.Core.List.{List, [], _++_}
-use Prim.Native.Nat.{ℕ, suc, _+_, _-_, _%_, _≤_, _<_}
+use mathlib.Core.Bool.{Bool, true, false, true≢false}
+use mathlib.Core.List.{List, _++_}
+use Prim.Native.Nat.{ℕ, suc, _+_, _-_, _≤_, _<_}
 use native.Mathlib.Numerals.{add-one}
 use native.Mathlib.Omega.{arith}
-use borrow.Author.Tests.{le-leb, lt-leb, eqb-true}
-use lib.Dec.{eqb}
 use lib.ListN.{length, take, drop, length-append, length-drop, drop-of-length-le}
-use lib.Seq.{drop-drop}
 use Rattle.base.specs.Lent.{placed}
-use Rattle.base.specs.Pick.{pick}
 use Rattle.base.specs.Refusals.{Told, done, refused}
 use Rattle.base.specs.declared.Verdict.the-variants.{Done}
 use Rattle.base.proofs.Lent.{Fills, fills-start, fills-more, fills-over, placed-none}
-use Rattle.base.proofs.Picks.{pick-yes, pick-no}
-use Rattle.base.proofs.Tests.{by-order}
 use Rattle.chain.specs.declared.Chain.{Chain}
 use Rattle.lines.specs.declared.Frame.{Frame}
 use Rattle.lines.specs.Answers.{lineLength, heldIn, frameFor, heldBy}
-use Rattle.lines.specs.Lines.{ended, linesOf, bytesIn, bytesOf, allHex}
-use Rattle.lines.proofs.Frames.{Holds, frame-holds}
-use Rattle.lines.proofs.Lines.{bytes-half, lines-next, lines-last}
+use Rattle.lines.specs.Lines.{ended, linesOf, bytesIn}
+use Rattle.lines.proofs.Lines.{lines-next, lines-last}
 use Rattle.capture.specs.declared.Report.{Report}
 use Rattle.capture.specs.declared.Replayed.{Replayed}
 use Rattle.capture.specs.declared.walk.Took.{Took}
@@ -38,28 +30,7 @@ use Rattle.capture.specs.Parts.{Takes, Ends, outOf, isTaken}
 use Rattle.capture.specs.Reports.{refusalLine}
 use Rattle.capture.specs.Replay.{taken, andThen, linesOut, lineEnd, linesEnd}
 use Rattle.capture.proofs.Reported.{refusal-length}
-use Rattle.capture.proofs.Forms.{form-long}
-
--- ---- what a frame holds
-
--- no bytes are of no form
-none-other : (n : ℕ) → other ≡ formOf n []
-unfolding formOf
-none-other n = refl
-
--- a reading of bytes that is the same for more than 33 as for none
-pub held-same {ℓ} : {A : Type ℓ} (f : List ℕ → A) → ((bytes : List ℕ) → 33 < length bytes → f bytes ≡ f []) → (chars : List ℕ)
-    → f (heldIn chars) ≡ f (bytesIn (ended chars))
-held-same f long chars =
-    by-order (length chars) 66 (λ h. ap f (pick-yes _ _ (le-leb (length chars) 66 h)))
-    (λ h. ap f (pick-no _ _ (lt-leb (length chars) 66 h)) ∙ sym (whole h (allHex chars) (eqb (length chars % 2) 0) refl))
-  where
-    whole : 66 < length chars → (a b : Bool) → eqb (length chars % 2) 0 ≡ b → f (pick (a && b) (bytesOf chars) []) ≡ f []
-    whole h true true e =
-        let even = eqb-true (length chars % 2) 0 e in
-        long (bytesOf chars) (omega (arith, bytes-half chars))
-    whole h true false e = refl
-    whole h false b e = refl
+use Rattle.capture.proofs.EachLine.{after-line, frame-count, frame-form}
 
 -- ---- what a line wrote
 
@@ -172,17 +143,11 @@ module _ {what : Report} {n : ℕ} {text whole : List ℕ} {told : Told (Unit {0
     line-fits (refused why p) rest e = omega (arith, last-room (refusalLine why number) e)
 
     module _ (f : Frame) (reads : f ≡ frameFor (heldIn (take (end - place) left))) where
-      holds : Holds f (heldIn (take (end - place) left))
-      holds = frame-holds (take (end - place) left) reads
-
       pub walks-count : f .count ≤ 33
-      walks-count = omega (arith, holds .count, holds .room)
+      walks-count = frame-count text place end f reads
 
       pub walks-form : formOf n (heldBy f) ≡ form
-      walks-form =
-          let same : end - place ≡ lineLength left = omega arith in
-          ap (formOf n) (holds .front ∙ ap (λ m. heldIn (take m left)) same)
-          ∙ held-same (formOf n) (λ bytes h. form-long n bytes h ∙ none-other n) chars
+      walks-form = frame-form text place end here n f reads
 
       pub walks-room : at + length (outOf (taken what n next (formOf n (heldBy f)) .told)) ≤ length out
       walks-room =
@@ -229,7 +194,7 @@ module _ {what : Report} {n : ℕ} {text whole : List ℕ} {told : Told (Unit {0
                   (fills-more (outOf (taken what n next form .told)) rest (subst (λ xs. Fills 0 whole out₀ at xs out) split-so (w .fills)) fits
                   (takes-so .puts .answer) (takes-so .puts .bytes));
               ends =
-                  sym (ap₂ (λ k xs. linesEnd n k (linesOf xs)) (sym (add-one number)) after-line)
+                  sym (ap₂ (λ k xs. linesEnd n k (linesOf xs)) (sym (add-one number)) (after-line text place end here))
                   ∙ sym (next-end ∙ ends-on what n next form number _ (sym (takes-so .taken) ∙ e))
                   ∙ w .ends;
             }
@@ -243,12 +208,7 @@ module _ {what : Report} {n : ℕ} {text whole : List ℕ} {told : Told (Unit {0
             fits : 0 + length whole ≤ length out₀
             fits = omega (arith, w .room)
 
-            after-line : drop (lineLength left + 1) left ≡ drop (end + 1) text
-            after-line =
-                let past : place + (lineLength left + 1) ≡ end + 1 = omega arith in
-                drop-drop (lineLength left + 1) place text ∙ ap (λ m. drop m text) past
-
             rest-so : rest ≡ linesOut what n (number + 1) (t .chain) (linesOf (drop (end + 1) text))
             rest-so =
-                ap₂ (λ k xs. linesOut what n k (taken what n next form .state) (linesOf xs)) (sym (add-one number)) after-line
+                ap₂ (λ k xs. linesOut what n k (taken what n next form .state) (linesOf xs)) (sym (add-one number)) (after-line text place end here)
                 ∙ ap (λ c. linesOut what n (number + 1) c (linesOf (drop (end + 1) text))) (sym (takes-so .chain))

@@ -4,10 +4,12 @@ use Prim.Native.Nat.{ℕ}
 use mathlib.Core.Bool.{_&&_}
 use mathlib.Core.List.{List, [], _∷_}
 use lib.Dec.{eqb, leb, ltb}
-use lib.ListN.{length}
+use lib.ListN.{length, getD, drop}
 use Rattle.base.specs.Pick.{pick}
 use Rattle.base.specs.Refusals.{Told, done, refused}
 use Rattle.chain.specs.Chain.{chipCount, checkedFrom}
+use Rattle.capture.specs.declared.frames.Form.{Form as Reading}
+use Rattle.capture.specs.declared.frames.Form.the-variants as Readings
 
 -- the first line: 00 01 N, or refusal 10
 unfoldable pub firstOf : List ℕ → Told ℕ
@@ -41,3 +43,9 @@ scanForm n (chip ∷ bytes) = pick (ltb chip n && eqb (length bytes) 8) (scan ch
 unfoldable pub formOf : ℕ → List ℕ → Form
 formOf n [] = other
 formOf n (kind ∷ rest) = pick (eqb kind 0x01) (samplesForm rest) (pick (eqb kind 0x02) (scanForm n rest) other)
+
+-- what `form_of` answers, the kind of a form alone, says of the line's bytes
+abbrev pub readAs : Reading → List ℕ → Form
+readAs Readings.Samples bytes = samples (drop 1 bytes)
+readAs Readings.Scan bytes = scan (getD bytes 1 0) (drop 2 bytes)
+readAs Readings.Other bytes = other

@@ -1,4 +1,4 @@
--- What the walk's own functions promise to one another. No public promise cites these.
+-- What the walk's own functions promise to one another, and what `chips_of` answers. No entry's promise cites these.
 -- Assumes nothing.
 use mathlib.Core.Path.{_≡_}
 use Prim.Native.Nat.{ℕ}

@@ -1,6 +1,8 @@
 // Capture text: a whole text replayed into a lent array that always suffices. One walk over the text serves two reports: the
-// words obeyed and the keys recorded, and the segments lit. The entries are `replay` and `screen`; nothing else is public.
-mod put;
+// words obeyed and the keys recorded, and the segments lit. The entries are `replay` and `screen`; the modules `frames`
+// and `put` have inner functions, for the other crates.
+pub mod frames;
+pub mod put;
 mod reports;
 mod walk;
 

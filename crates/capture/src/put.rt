@@ -1,15 +1,13 @@
 // Writing the line of a refusal.
 use base::Refusal;
-ghost use Prim.Native.Nat.{_+_, _≤_};
-ghost use lib.ListN.{length};
 ghost use Rattle.base.specs.Refusals.{numberOf, placeOf};
-ghost use Rattle.lines.specs.Answers.{Puts};
+ghost use Rattle.lines.specs.Answers.{fitting, Puts};
 ghost use Rattle.capture.specs.Reports.{refusalLine};
 
-// A refusal: 1F, its number, and its place, a line's number, in four bytes.
-pub(crate) fn refusal(e: Refusal, out: &mut [u8], at: usize) -> usize
-    requires { ⌜ at + 13 ≤ length (now out) ⌝ }
-    ensures { λ r. ⌜ Puts (refusalLine (numberOf e) (placeOf e)) at (now (out .entry)) r (now (out .exit)) ⌝ }
+// A refusal: 1F, its number, and its place, a line's number, in four bytes. Where it doesn't fit, nothing is written, and the answer
+// is the place given.
+pub fn refusal(e: Refusal, out: &mut [u8], at: usize) -> usize
+    ensures { λ r. ⌜ Puts (fitting (refusalLine (numberOf e) (placeOf e)) at (now (out .entry))) at (now (out .entry)) r (now (out .exit)) ⌝ }
 {
     let number = base::number(e);
     let place = base::place(e);

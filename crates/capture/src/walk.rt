@@ -1,19 +1,19 @@
 // The walk over a text: line by line, each tested whole before any of it is played.
 use crate::Replayed;
 use crate::Report;
+use crate::frames;
+use crate::frames::Form;
 use crate::put;
 use crate::reports;
 use base::Refusal;
 use base::Verdict;
 use chain::Chain;
 use lines::Frame;
-ghost use mathlib.Core.Path.{_≡_};
 ghost use Prim.Native.Nat.{_+_, _≤_, _<_};
-ghost use mathlib.Core.List.{_∷_};
 ghost use lib.ListN.{length, drop};
 ghost use Rattle.base.specs.Refusals.{refused};
 ghost use Rattle.chain.specs.Chain as C;
-ghost use Rattle.lines.specs.Answers.{lineLength, heldBy};
+ghost use Rattle.lines.specs.Answers.{heldBy};
 ghost use Rattle.lines.specs.Lines as L;
 ghost use Rattle.capture.specs.Frames as F;
 ghost use Rattle.capture.specs.Parts as P;
@@ -52,25 +52,7 @@ fn samples(what: Report, n: usize, chain: Chain, ss: &[u8], out: &mut [u8], at: 
     }
 }
 
-// After 01: all samples are tested before any is played.
-fn sample_line(what: Report, n: usize, chain: Chain, ss: &[u8], out: &mut [u8], at: usize) -> Took
-    requires { ⌜ n ≤ C.most ⌝ }
-    requires { ⌜ (1 ≤ length (now ss)) × (length (now ss) ≤ 32) ⌝ }
-    requires { ⌜ at + length (P.outOf (R.taken what n chain (F.samplesForm (now ss)) .told)) ≤ length (now out) ⌝ }
-    ensures { λ r. ⌜ P.Takes (R.taken what n chain (F.samplesForm (now (ss .entry)))) at (now (out .entry)) r (now (out .exit)) ⌝ }
-{
-    let test = chain::checks::checked(ss);
-    match test {
-        Verdict::Refused(_) => Took {
-            chain,
-            taken: false,
-            at,
-        },
-        Verdict::Done => samples(what, n, chain, ss, out, at),
-    }
-}
-
-// After 02: a chip, and 8 scan bytes.
+// A scan of a chip.
 fn scan_line(
     what: Report,
     n: usize,
@@ -80,20 +62,10 @@ fn scan_line(
     out: &mut [u8],
     at: usize,
 ) -> Took
-    requires { ⌜ n ≤ C.most ⌝ }
-    requires { ⌜ length bytes ≡ 8 ⌝ }
-    requires { ⌜ at + length (P.outOf (R.taken what n chain (F.scanForm n (k ∷ bytes)) .told)) ≤ length (now out) ⌝ }
-    ensures { λ r. ⌜ P.Takes (R.taken what n chain (F.scanForm n (k ∷ bytes))) at (now (out .entry)) r (now (out .exit)) ⌝ }
+    requires { ⌜ at + length (P.outOf (R.taken what n chain (F.scan k bytes) .told)) ≤ length (now out) ⌝ }
+    ensures { λ r. ⌜ P.Takes (R.taken what n chain (F.scan k bytes)) at (now (out .entry)) r (now (out .exit)) ⌝ }
 {
-    let place = k as usize;
-    if place >= n {
-        return Took {
-            chain,
-            taken: false,
-            at,
-        };
-    }
-    let scanned = chain::one::scan_chip(place, bytes, chain);
+    let scanned = chain::one::scan_chip(k as usize, bytes, chain);
     let after = scanned.chain;
     let before = scanned.before;
     let taken = scanned.taken;
@@ -113,42 +85,28 @@ fn line(what: Report, n: usize, chain: Chain, frame: Frame, out: &mut [u8], at: 
 {
     let count = frame.count;
     let bytes = frame.bytes;
-    if count < 2 {
-        return Took {
+    let form = frames::form_of(n, &bytes[..count]);
+    match form {
+        Form::Samples => samples(what, n, chain, &bytes[1..count], out, at),
+        Form::Scan => {
+            let eight = [
+                bytes[2],
+                bytes[3],
+                bytes[4],
+                bytes[5],
+                bytes[6],
+                bytes[7],
+                bytes[8],
+                bytes[9],
+            ];
+            scan_line(what, n, chain, bytes[1], eight, out, at)
+        }
+        Form::Other => Took {
             chain,
             taken: false,
             at,
-        };
+        },
     }
-    let kind = bytes[0];
-    if kind == 0x01 {
-        return sample_line(what, n, chain, &bytes[1..count], out, at);
-    }
-    if kind != 0x02 {
-        return Took {
-            chain,
-            taken: false,
-            at,
-        };
-    }
-    if count != 10 {
-        return Took {
-            chain,
-            taken: false,
-            at,
-        };
-    }
-    let eight = [
-        bytes[2],
-        bytes[3],
-        bytes[4],
-        bytes[5],
-        bytes[6],
-        bytes[7],
-        bytes[8],
-        bytes[9],
-    ];
-    scan_line(what, n, chain, bytes[1], eight, out, at)
 }
 
 // A line that isn't of the form: refusal 10, written and answered.
@@ -195,32 +153,6 @@ fn lines(what: Report, n: usize, chain: Chain, text: &[u8], from: usize, out: &m
     }
 }
 
-// N of the first line, 00 01 N; 0 where it isn't of that form.
-fn first(text: &[u8], end: usize) -> usize
-    requires { ⌜ end ≡ lineLength (now text) ⌝ }
-    ensures { λ r. ⌜ r ≡ P.chipsIn (P.firstIn (L.linesOf (now (text .entry)))) ⌝ }
-{
-    if end >= text.len() {
-        return 0;
-    }
-    let frame = lines::frame_of(&text[..end]);
-    let bytes = frame.bytes;
-    if frame.count != 3 {
-        return 0;
-    }
-    if bytes[0] != 0x00 {
-        return 0;
-    }
-    if bytes[1] != 0x01 {
-        return 0;
-    }
-    let n = bytes[2] as usize;
-    if !chain::checks::is_count(n) {
-        return 0;
-    }
-    n
-}
-
 // A whole text.
 pub(crate) fn whole(what: Report, text: &[u8], out: &mut [u8]) -> Replayed
     requires { ⌜ length (R.outputOf what (now text)) ≤ length (now out) ⌝ }
@@ -232,11 +164,11 @@ pub(crate) fn whole(what: Report, text: &[u8], out: &mut [u8]) -> Replayed
             answer: Verdict::Refused(Refusal::Text),
         };
     }
-    let end = lines::line_end(text, 0);
-    let n = first(text, end);
+    let n = frames::chips_of(text);
     if n == 0 {
         return wrong_line(1, out, 0);
     }
+    let end = lines::line_end(text, 0);
     let begun = chain::start(n);
     let chain = begun.chain;
     lines(what, n, chain, text, end + 1, out)

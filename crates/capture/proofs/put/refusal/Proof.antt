@@ -2,15 +2,12 @@
 -- Assumes nothing.
 use mathlib.Core.Path.{ap, ap₂, sym, _∙_}
 use mathlib.Core.List.{_∷_}
-use Prim.Native.Nat.{_+_, _%_, _≤_}
+use Prim.Native.Nat.{_%_}
 use native.Mathlib.Nat.{mod-eq-of-lt}
-use native.Mathlib.Omega.{arith}
-use lib.ListN.{length}
-use Rattle.base.specs.Refusals.{numberOf, placeOf}
 use Rattle.base.proofs.Refusals.{number-small}
+use Rattle.lines.specs.Answers.{fitting}
 use Rattle.lines.specs.Lines.{lineFor, fourBytes}
-use Rattle.capture.specs.Reports.{refusalLine}
-use Rattle.capture.proofs.Reported.{line-put, refusal-length}
+use Rattle.capture.proofs.Reported.{puts-as}
 use borrow.Author.Needs.{needs}
 use Rattle.capture.proofs.put.refusal.Statement.{statement}
 use Rattle.capture.proofs.put.refusal.Tie as tie
@@ -20,10 +17,8 @@ returns c =
     let a = c .before .before .before .before .before .before .before .before .args in
     let n = c .before .before .before .before .before .before .number in
     let p = c .before .before .before .before .before .place in
-    let room : a .at + length (refusalLine (numberOf (a .e)) (placeOf (a .e))) ≤ length (a .out .now) = omega (arith, refusal-length (numberOf (a .e)) (placeOf (a .e))) in
     let number = ap (λ x. x % 256) (n .ensures) ∙ mod-eq-of-lt (number-small (a .e)) in
-    line-put (0x1F ∷ (n .result % 256) ∷ fourBytes (p .result)) (sym (ap₂ (λ x y. lineFor (0x1F ∷ x ∷ fourBytes y)) number (p .ensures))) room
-    (c .before .before .put-line .ensures)
+    puts-as (ap₂ (λ x y. fitting (lineFor (0x1F ∷ x ∷ fourBytes y)) (a .at) (a .out .now)) (sym number) (sym (p .ensures))) (c .before .before .put-line .ensures)
 
 pub refusal-spec : {M : Type 1} → statement M
 refusal-spec =
