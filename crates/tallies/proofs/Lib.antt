@@ -1,0 +1,16 @@
+pub mod Places
+pub mod Rooms
+pub mod Steps
+pub mod Balance
+pub mod Sums
+pub mod Appends
+pub mod Plays
+pub mod Texts
+pub mod OneRead
+pub mod Rises
+pub mod Stretches
+pub mod Scanning
+pub mod Taken
+pub mod Walking
+pub mod PrintedLines
+pub mod Unique
