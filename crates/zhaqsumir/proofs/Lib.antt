@@ -1,4 +1,5 @@
 pub mod Fields
 pub mod Ranges
 pub mod RoundTrips
+pub mod Counts
 pub mod Unique

@@ -9,6 +9,7 @@ use Rattle.zhaqsumir.proofs.zhaqsumir_encode
 use Rattle.zhaqsumir.proofs.zhaqsumir_write
 use Rattle.zhaqsumir.proofs.zhaqsumir_find
 use Rattle.zhaqsumir.proofs.zhaqsumir_replay
+use Rattle.zhaqsumir.proofs.zhaqsumir_tally
 
 pub zhaqsumir-decode-unique : AllowsOne zhaqsumir_decode.Kinds.ps zhaqsumir_decode.Kinds.r zhaqsumir_decode.Reads.Learnt
 zhaqsumir-decode-unique κs a x y last last′ p q = (refl, λ i. (tt, (same-answer p q i, tt)))
@@ -26,3 +27,15 @@ zhaqsumir-find-unique κs a x y last last′ p q = (refl, λ i. (tt, (tt, (same-
 pub zhaqsumir-replay-unique : AllowsOne zhaqsumir_replay.Kinds.ps zhaqsumir_replay.Kinds.r zhaqsumir_replay.Reads.Learnt
 zhaqsumir-replay-unique κs a x y last last′ p q =
     (refl, λ i. (tt, (same-answer (p .bytes) (q .bytes) i, (same-answer (p .numbers) (q .numbers) i, tt))))
+
+pub zhaqsumir-tally-unique : AllowsOne zhaqsumir_tally.Kinds.ps zhaqsumir_tally.Kinds.r zhaqsumir_tally.Reads.Learnt
+zhaqsumir-tally-unique κs a x y last last′ p q = (
+  refl,
+  λ i. (
+    tt,
+    (
+      same-answer (p .chips) (q .chips) i,
+      (same-answer (p .codes) (q .codes) i, (same-answer (p .largest) (q .largest) i, (same-answer (p .numbers) (q .numbers) i, tt))),
+    ),
+  ),
+)

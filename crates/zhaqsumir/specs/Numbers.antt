@@ -1,10 +1,11 @@
 -- Which number stands where in the answers: a refusal's number and place by document 01 (0 and 0 where there is none), then the
--- answer's own numbers, zeros where it is refused; but a replay counts the bytes that it wrote either way, its refusal's line included.
+-- answer's own numbers, zeros where it is refused; but a replay counts the bytes that it wrote either way, its refusal's line included,
+-- and a tally stands in arrays of its own, before and after.
 -- Assumes nothing.
 use mathlib.Core.Path.{_≡_}
-use Prim.Native.Nat.{ℕ}
+use Prim.Native.Nat.{ℕ, _+_, _*_}
 use mathlib.Core.List.{List, [], _∷_}
-use lib.ListN.{length}
+use lib.ListN.{length, getD}
 use Rattle.base.specs.Lent.{laid}
 use Rattle.base.specs.Refusals.{Told, done, refused}
 use Rattle.word.specs.declared.Command.{Command}
@@ -14,6 +15,9 @@ use Rattle.writer.specs.Rows.{written}
 use Rattle.writer.specs.Written.{answerOf, bytesBy}
 use Rattle.capture.specs.declared.Report.the-variants.{Words}
 use Rattle.capture.specs.Replay.{endOf, outputOf}
+use Rattle.tallies.specs.declared.Counts.{Counts}
+use Rattle.tallies.specs.declared.Tally.{Tally}
+use Rattle.tallies.specs.Counted.{countedOf}
 use Rattle.zhaqsumir.specs.Commands.{numbersOf, commandIn}
 
 -- the number of a refusal; 0 where there is none
@@ -92,3 +96,30 @@ replayBy t bytes = numberIn t ∷ placeIn t ∷ bytes ∷ []
 pub record ReplaysNumbers (text out : List ℕ) (answer out′ : List ℕ) : Type 0 where
   pub numbers : answer ≡ replayBy (endOf text) (length (outputOf Words text))
   pub bytes : out′ ≡ laid (outputOf Words text) out
+
+-- ---- tally: number, line; and the tally lent as numbers: four counts for each chip, 128 tallies, the largest N
+
+-- the counts of chip k: recorded, read, overwritten, cleared
+abbrev pub chipIn : List ℕ → ℕ → Counts
+chipIn numbers k =
+    record { recorded = getD numbers (4 * k) 0; read = getD numbers (4 * k + 1) 0; overwritten = getD numbers (4 * k + 2) 0; cleared = getD numbers (4 * k + 3) 0 }
+
+abbrev pub chipsIn : List ℕ → List Counts
+chipsIn numbers =
+    chipIn numbers 0 ∷ chipIn numbers 1 ∷ chipIn numbers 2 ∷ chipIn numbers 3 ∷ chipIn numbers 4 ∷ chipIn numbers 5 ∷ chipIn numbers 6 ∷ chipIn numbers 7 ∷ []
+
+-- and their numbers
+abbrev pub chipNumbers : List Counts → List ℕ
+chipNumbers [] = []
+chipNumbers (c ∷ cs) = c .recorded ∷ c .read ∷ c .overwritten ∷ c .cleared ∷ chipNumbers cs
+
+-- the tally that numbers stand for
+abbrev pub tallyIn : List ℕ → List ℕ → ℕ → Tally
+tallyIn chips codes largest = record { chips = chipsIn chips; codes = codes; largest = largest }
+
+-- what `zhaqsumir_tally` does, where `cs`, `ts` and `n` are the tally's numbers before it: its answer, and the numbers of the tally after the text
+pub record TalliesNumbers (text cs ts : List ℕ) (n : ℕ) (answer cs′ ts′ : List ℕ) (n′ : ℕ) : Type 0 where
+  pub numbers : answer ≡ numberIn (countedOf (tallyIn cs ts n) text .told) ∷ placeIn (countedOf (tallyIn cs ts n) text .told) ∷ []
+  pub chips : cs′ ≡ chipNumbers (countedOf (tallyIn cs ts n) text .state .chips)
+  pub codes : ts′ ≡ countedOf (tallyIn cs ts n) text .state .codes
+  pub largest : n′ ≡ countedOf (tallyIn cs ts n) text .state .largest

@@ -1,14 +1,16 @@
-// The till's own library: the proved functions for C to link, five entries. Each takes numbers and slices, and answers by numbers
+// The till's own library: the proved functions for C to link, six entries. Each takes numbers and slices, and answers by numbers
 // in a lent array: a refusal's number and place, 0 and 0 where there is none, then the answer, zeros where it is refused. A replay
-// counts the bytes that it wrote either way.
+// counts the bytes that it wrote either way; a tally is lent as numbers, and goes on.
 // include/zhaqsumir.h is their header.
 mod commands;
+mod tallied;
 
 use base::Verdict;
 use capture::Replayed;
 use chain::finder::Found;
 use chain::finder::Rise;
 use commands::Given;
+use tallies::Tally;
 use word::Decoded;
 use word::Encoded;
 use writer::Written;
@@ -176,4 +178,31 @@ pub extern "C" fn zhaqsumir_replay(
     ensures { λ _. ⌜ N.ReplaysNumbers (now (text .entry)) (now (out .entry)) (now (answer .exit)) (now (out .exit)) ⌝ }
 {
     *answer = replayed(capture::replay(text, out));
+}
+
+// Counts a capture text, and goes on from the tally that is lent: number, line.
+#[no_mangle]
+pub extern "C" fn zhaqsumir_tally(
+    text: &[u8],
+    chips: &mut [u64; 32],
+    codes: &mut [u64; 128],
+    largest: &mut u64,
+    answer: &mut [u64; 2],
+)
+    ensures { λ _. ⌜ N.TalliesNumbers (now (text .entry)) (now (chips .entry)) (now (codes .entry)) (now (largest .entry)) (now (answer .exit)) (now (chips .exit)) (now (codes .exit)) (now (largest .exit)) ⌝ }
+{
+    let before = Tally {
+        chips: tallied::chips_from(chips),
+        codes: *codes,
+        largest: *largest as usize,
+    };
+    let counted = tallies::count(before, text);
+    let verdict = counted.answer;
+    let after = counted.tally;
+    let counts = after.chips;
+    let times = after.codes;
+    *chips = tallied::numbers_of(counts);
+    *codes = times;
+    *largest = after.largest as u64;
+    *answer = [verdict_number(verdict), verdict_place(verdict)];
 }
