@@ -1,7 +1,7 @@
 -- Demand 1, the exact table, for the library that C links: each answer says by its first two numbers what the table says.
---     numbers-exact                                                   a command that is given as numbers keeps to its table
---     says-exactly                                                    what is told exactly is said exactly
---     decode-says, encode-says, write-says, find-says, replay-says    the five functions
+--     numbers-exact                                                               a command that is given as numbers keeps to its table
+--     says-exactly                                                                what is told exactly is said exactly
+--     decode-says, encode-says, write-says, find-says, replay-says, tally-says    the six functions
 -- Assumes nothing.
 use mathlib.Core.Path.{_≡_, refl, ap, ap₂, sym, subst}
 use mathlib.Core.Bool.{Bool}
@@ -11,24 +11,34 @@ use native.Mathlib.Omega.{arith}
 use lib.ListN.{length, getD}
 use Rattle.base.specs.Refusals.{Told, done, refused, IsDone}
 use Rattle.word.specs.Words.{decodedOf}
+use Rattle.chain.specs.declared.Chain.{Chain}
+use Rattle.chain.specs.Entries.{startChain}
+use Rattle.chain.specs.Events.{happened}
 use Rattle.chain.specs.Finder.{foundOf}
 use Rattle.writer.specs.Written.{answerOf}
-use Rattle.lines.specs.Lines.{Line, linesOf}
+use Rattle.lines.specs.Lines.{Line, linesOf, bytesIn}
 use Rattle.capture.specs.declared.Report.the-variants.{Words}
 use Rattle.capture.specs.Replay.{endOf, outputOf}
+use Rattle.capture.specs.Parts.{chipsIn}
+use Rattle.capture.specs.Frames.{firstOf, formOf}
+use Rattle.tallies.specs.declared.Tally.{Tally}
+use Rattle.tallies.specs.Tallies.{added}
+use Rattle.tallies.specs.Counted.{countedOf, withChips}
 use Rattle.zhaqsumir.specs.Commands.{commandFrom}
-use Rattle.zhaqsumir.specs.Numbers.{numberIn, placeIn, numberOr0, kindAndFields, isRise, risePlace, encodedBy, decodeNumbers, encodeNumbers, findNumbers, WritesNumbers, ReplaysNumbers}
+use Rattle.zhaqsumir.specs.Numbers.{numberIn, placeIn, numberOr0, kindAndFields, isRise, risePlace, encodedBy, decodeNumbers, encodeNumbers, findNumbers, WritesNumbers, ReplaysNumbers, tallyIn, TalliesNumbers}
 use Rattle.word.specs.Ranges.{ranges, within, inRange}
 use Rattle.zhaqsumir.proofs.Ranges.{Tells, a-word, nine, encode-ranges}
 use Rattle.demands.specs.Exact.{Row, row, each, None, Exactly, SaysExactly, NoneOf}
 use Rattle.demands.specs.Refusals.{Above, NumbersOutOfRange, BufferShort}
 use Rattle.demands.specs.Tables.{decodeTable, numbersTable, sampleRow, findTable, wordRow, wordRows, writeTable}
 use Rattle.demands.specs.Texts.{lineRow, lineRows, textTable}
+use Rattle.demands.specs.Tallies.{eventsIn, countRows, countLines, countTable}
 use Rattle.demands.proofs.Conditions.{Tests, passed, failed, leb-tests, both-tests}
 use Rattle.demands.proofs.ByTable.{ByTable, answered, here, later, by-table}
 use Rattle.demands.proofs.Exact.{decode-exact}
 use Rattle.demands.proofs.ExactChain.{find-exact}
 use Rattle.demands.proofs.ExactText.{text-exact}
+use Rattle.demands.proofs.ExactTally.{count-exact}
 use Rattle.demands.proofs.ExactWriter.{write-exact}
 use Rattle.demands.proofs.Readings.{none-first}
 
@@ -89,7 +99,7 @@ says-exactly t rest rows exact no-0 =
       answered = (to-none t rows exact no-0, λ n. from-done t (exact .answer .1 n));
     }
 
--- ---- the five functions
+-- ---- the six functions
 
 pub decode-says : (w : ℕ) → SaysExactly (decodeNumbers w) (decodeTable w)
 decode-says w = says-exactly (decodedOf w) (kindAndFields (decodedOf w)) (decodeTable w) (decode-exact w) ((λ e. omega arith), tt)
@@ -121,3 +131,22 @@ replay-says text out answer out′ replays =
     lines : (ls : List Line) → NoneOf 0 (lineRows ls)
     lines [] = ((λ e. omega arith), tt)
     lines (first ∷ ls) = ((λ e. omega arith), none-each (lineRow first) 0 (λ k l. ((λ e. omega arith), tt)) 2 ls)
+
+pub tally-says : (text cs ts : List ℕ) (n : ℕ) (answer cs′ ts′ : List ℕ) (n′ : ℕ) → length ts ≡ 128 → TalliesNumbers text cs ts n answer cs′ ts′ n′
+    → SaysExactly answer (countTable (tallyIn cs ts n) text)
+tally-says text cs ts n answer cs′ ts′ n′ size tallies =
+    let t = tallyIn cs ts n in
+    subst (λ xs. SaysExactly xs (countTable t text)) (sym (tallies .numbers))
+    (says-exactly (countedOf t text .told) [] (countTable t text) (count-exact t text refl size) ((λ e. omega arith), ((λ e. omega arith), lines (linesOf text))))
+  where
+    rows : (first : Line) (k number : ℕ) (ch : Chain) (t : Tally) (ls : List Line) → NoneOf 0 (countRows first k number ch t ls)
+    rows first k number ch t [] = tt
+    rows first k number ch t (l ∷ ls) =
+        let es = eventsIn (formOf k (bytesIn l)) in
+        ((λ e. omega arith), ((λ e. omega arith), rows first k (suc number) (happened k es ch) (added k es ch t) ls))
+
+    lines : (ls : List Line) → NoneOf 0 (countLines (tallyIn cs ts n) ls)
+    lines [] = ((λ e. omega arith), tt)
+    lines (first ∷ ls) =
+        let k = chipsIn (firstOf (bytesIn first)) in
+        ((λ e. omega arith), rows first k 2 startChain (withChips k (tallyIn cs ts n)) ls)

@@ -23,11 +23,13 @@ pub mod ExactText
 pub mod TextOutput
 pub mod Readings
 pub mod Named
+pub mod UnchangedTally
 pub mod Unchanged
 pub mod RisePlaces
 pub mod Direct
 pub mod Whole
 pub mod Alone
 pub mod Shown
-pub mod Histories
 pub mod Codes
+pub mod Tallied
+pub mod ExactTally

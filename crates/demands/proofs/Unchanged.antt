@@ -1,5 +1,5 @@
 -- Demand 1, "a refusal changes no chip and no byte of a lent buffer": the theorem.
---     never, by-pick, by-after      an answer is no refusal; a choice, and a test before it, hand back what their sides do
+--     by-pick, by-after             a choice, and a test before it, hand back what their sides do
 --     text-kept                     what a refused text leaves
 --     refusals-change-nothing       the theorem
 -- Assumes nothing.
@@ -27,16 +27,13 @@ use Rattle.capture.specs.declared.Report as Capture
 use Rattle.capture.specs.declared.Report.the-variants.{Words, Screen}
 use Rattle.capture.specs.Replay.{endOf, outputOf}
 use Rattle.zhaqsumir.specs.Commands.{commandIn}
-use Rattle.zhaqsumir.specs.Numbers.{numberIn, placeIn, decodeBy, alone, encodedBy, findBy}
-use Rattle.demands.specs.Unchanged.{HandsBack, Refuses, TextRefused, RefusalsChangeNothing}
+use Rattle.zhaqsumir.specs.Numbers.{placeIn, decodeBy, alone, encodedBy, findBy}
+use Rattle.demands.specs.Unchanged.{HandsBack, Refuses, TextRefused, CountRefused, RefusalsChangeNothing}
 use Rattle.demands.proofs.ExactText.{text-exact}
 use Rattle.demands.proofs.TextOutput.{text-output}
+use Rattle.demands.proofs.UnchangedTally.{never, is-refusal, count-refused, tally-refused}
 
 -- ---- outcomes
-
--- an answer is no refusal
-never {κ} : {A : Type 0} {B : Type κ} {a : A} {number place : ℕ} → done a ≡ refused number place → B
-never e = let z : _≡_ {A = ℕ} 0 1 = cc in absurd (omega arith)
 
 -- a result that a contract allows
 by-contract : {S A : Type 0} {o p : Outcome S A} {given : S} → o ≡ p → HandsBack p given → HandsBack o given
@@ -72,11 +69,6 @@ text-kept what text out out′ bytes number line e count laid-so =
     }
 
 -- ---- answers by numbers
-
--- a first number that isn't 0 tells a refusal
-is-refusal : {A : Type 0} (t : Told A) {number : ℕ} → numberIn t ≡ suc number → t ≡ refused (suc number) (placeIn t)
-is-refusal (done answer) {number} e = let z : 0 ≡ suc number = e in absurd (omega arith)
-is-refusal (refused m place) e = ap (λ x. refused x place) e
 
 decode-zeros : (t : Told Command) → Refuses (decodeBy t) (0 ∷ 0 ∷ 0 ∷ 0 ∷ 0 ∷ 0 ∷ [])
 decode-zeros (done c) number e = let z : 0 ≡ suc number = e in absurd (omega arith)
@@ -125,6 +117,8 @@ refusals-change-nothing =
       write = λ n ws out out′ r w m q e. w .bytes ∙ kept-bytes (answerOf n ws out) (written n ws) out (sym (w .answer) ∙ e);
       replay = λ text out out′ r w m line e. text-kept Words text out out′ (r .bytes) m line (sym (w .answer) ∙ e) (w .count) (w .bytes);
       screen = λ text out out′ r w m line e. text-kept Screen text out out′ (r .bytes) m line (sym (w .answer) ∙ e) (w .count) (w .bytes);
+      count = λ t text r e m line f.
+          subst (CountRefused t text line) (sym (ap (λ o. o .state) e)) (count-refused t text m line (sym (ap (λ o. o .told) e) ∙ f));
       libraryDecode = λ word answer e. answer-as e (decode-zeros (decodedOf word));
       libraryEncode = λ command answer e. answer-as e (alone-zero (encodedBy (commandIn command)));
       libraryFind = λ levels samples answer e. answer-as e (find-zeros (foundOf levels samples) (find-kept levels samples));
@@ -137,4 +131,5 @@ refusals-change-nothing =
           let told = is-refusal (endOf text) (sym (ap (λ xs. getD xs 0 0) same) ∙ e) in
           let line = ap (λ xs. getD xs 1 0) same in
           text-kept Words text out out′ (getD answer 2 0) (suc m) (getD answer 1 0) (told ∙ ap (refused (suc m)) (sym line)) (ap (λ xs. getD xs 2 0) same) (w .bytes);
+      libraryTally = tally-refused;
     }

@@ -55,7 +55,7 @@ AnyDisplay =
 
 -- of chip k of any chain, whatever is played and whatever other chips are scanned: under premises on its history such codes are recorded,
 -- and the till can get no others
-abbrev Codes : (ℕ → List Step → Type 0) → ((n k a : ℕ) → Chain → List Event → Type 0) → Type 0
+abbrev pub Codes : (ℕ → List Step → Type 0) → ((n k a : ℕ) → Chain → List Event → Type 0) → Type 0
 Codes Premise Holds =
     (n k a : ℕ) (ch : Chain)
     → k < n → n ≤ most → length (ch .chips) ≡ most → a < none

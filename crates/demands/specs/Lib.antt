@@ -7,6 +7,7 @@ pub mod Exact
 pub mod Refusals
 pub mod Tables
 pub mod Texts
+pub mod Tallies
 pub mod Unchanged
 pub mod Direct
 pub mod Whole

@@ -3,12 +3,14 @@
 --     HandsBack                 where a refusal is told, the value is the one given (zeros, where none was given)
 --     Refuses                   where an answer by numbers tells a refusal, its other numbers are zeros
 --     TextRefused               what a refused text leaves in the lent array
+--     CountRefused              what a text that is refused leaves of a tally
+--     TallyRefused              the same of a tally lent as numbers
 --     RefusalsChangeNothing     the statement, entry by entry
 -- Assumes nothing.
 use mathlib.Core.Path.{_≡_}
 use mathlib.Core.Bool.{false}
 use mathlib.Core.List.{List, [], _∷_, _++_}
-use Prim.Native.Nat.{ℕ, suc}
+use Prim.Native.Nat.{ℕ, suc, _-_, _≤_}
 use lib.ListN.{length, getD, take, drop}
 use Rattle.base.specs.Refusals.{refused, Outcome, verdictTells}
 use Rattle.word.specs.declared.Command.{Command}
@@ -32,7 +34,11 @@ use Rattle.capture.specs.declared.Report.the-variants.{Words, Screen}
 use Rattle.capture.specs.declared.Replayed.{Replayed}
 use Rattle.capture.specs.Reports.{refusalLine}
 use Rattle.capture.specs.Replay.{Replays}
-use Rattle.zhaqsumir.specs.Numbers.{decodeNumbers, encodeNumbers, findNumbers, WritesNumbers, ReplaysNumbers}
+use Rattle.lines.specs.Lines.{linesOf}
+use Rattle.tallies.specs.declared.Tally.{Tally}
+use Rattle.tallies.specs.declared.Counted.{Counted}
+use Rattle.tallies.specs.Counted.{countedAll, countedOf, handedTally}
+use Rattle.zhaqsumir.specs.Numbers.{decodeNumbers, encodeNumbers, findNumbers, WritesNumbers, ReplaysNumbers, chipNumbers, tallyIn, TalliesNumbers}
 use Rattle.demands.specs.Texts.{wroteBefore}
 
 -- where a refusal is told, the value is the one given (zeros, where none was given)
@@ -56,6 +62,23 @@ TextKept what =
     (text out out′ : List ℕ) (r : Replayed) → Replays what text out r out′ → (number line : ℕ) → verdictTells (r .answer) ≡ refused number line
     → TextRefused what text out out′ number line (r .bytes)
 
+-- what the lines of a text before a line leave of a tally
+abbrev pub tallyBefore : Tally → List ℕ → ℕ → Tally
+tallyBefore t text line = countedAll t (take (line - 1) (linesOf text)) .state .tally
+
+-- of a text that is refused at a line: what earlier lines counted stands, and nothing else is counted; where the first line is refused, or
+-- none is named, the tally is the one given
+pub record CountRefused (t : Tally) (text : List ℕ) (line : ℕ) (t′ : Tally) : Type 0 where
+  pub earlier : t′ ≡ tallyBefore t text line
+  pub same : line ≤ 1 → t′ ≡ t
+
+-- the same of a tally lent as numbers, 32 of them for its chips
+pub record TallyRefused (text cs ts : List ℕ) (n line : ℕ) (cs′ ts′ : List ℕ) (n′ : ℕ) : Type 0 where
+  pub chips : cs′ ≡ chipNumbers (tallyBefore (tallyIn cs ts n) text line .chips)
+  pub codes : ts′ ≡ tallyBefore (tallyIn cs ts n) text line .codes
+  pub largest : n′ ≡ tallyBefore (tallyIn cs ts n) text line .largest
+  pub same : line ≤ 1 → length cs ≡ 32 → (cs′ ≡ cs) × (ts′ ≡ ts) × (n′ ≡ n)
+
 -- a refusal changes no chip and no byte of a lent buffer
 pub record RefusalsChangeNothing : Type 0 where
   -- one chip: the chip handed back is the one given; no segment is lit
@@ -77,7 +100,10 @@ pub record RefusalsChangeNothing : Type 0 where
   -- a text: what earlier lines wrote stands, the refusal's line follows, and the rest of the array is as it was
   pub replay : TextKept Words
   pub screen : TextKept Screen
-  -- the library's five functions: zeros after the refusal's number and place, and the lent buffers as above
+  -- a tally: what earlier lines counted stands, and nothing else is counted
+  pub count : (t : Tally) (text : List ℕ) (r : Counted) → handedTally r ≡ countedOf t text → (number line : ℕ) → verdictTells (r .answer) ≡ refused number line
+      → CountRefused t text line (r .tally)
+  -- the library's six functions: zeros after the refusal's number and place, and the lent buffers and the tally as above
   pub libraryDecode : (word : ℕ) (answer : List ℕ) → answer ≡ decodeNumbers word → Refuses answer (0 ∷ 0 ∷ 0 ∷ 0 ∷ 0 ∷ 0 ∷ [])
   pub libraryEncode : (command answer : List ℕ) → answer ≡ encodeNumbers command → Refuses answer (0 ∷ [])
   pub libraryFind : (levels : ℕ) (samples answer : List ℕ) → answer ≡ findNumbers levels samples → Refuses answer (0 ∷ 0 ∷ 0 ∷ [])
@@ -85,3 +111,5 @@ pub record RefusalsChangeNothing : Type 0 where
       → Refuses answer (0 ∷ []) × ((number : ℕ) → getD answer 0 0 ≡ suc number → out′ ≡ out)
   pub libraryReplay : (text out answer out′ : List ℕ) → ReplaysNumbers text out answer out′ → (number : ℕ) → getD answer 0 0 ≡ suc number
       → TextRefused Words text out out′ (suc number) (getD answer 1 0) (getD answer 2 0)
+  pub libraryTally : (text cs ts : List ℕ) (n : ℕ) (answer cs′ ts′ : List ℕ) (n′ : ℕ) → TalliesNumbers text cs ts n answer cs′ ts′ n′ → (number : ℕ)
+      → getD answer 0 0 ≡ suc number → TallyRefused text cs ts n (getD answer 1 0) cs′ ts′ n′
