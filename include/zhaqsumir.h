@@ -1,4 +1,4 @@
-/* The proved functions of Zhaqsumir for C: words, the writer, the finder and the replay of a capture.
+/* The proved functions of Zhaqsumir for C: words, the writer, the finder, the replay of a capture and the tally over captures.
  *
  * Link target/staticlib/libzhaqsumir.a, which `rt staticlib zhaqsumir` makes, for x86-64 Linux. C11 or C++11; no other header is
  * needed. "Document 01" is the requirements, and its words are used: a word is a 12-bit command of a CH452, a sample is the three
@@ -7,16 +7,19 @@
  * Every function writes an array of numbers, the answer. Its first number is 0, or the number of a refusal; its second is the
  * place that the refusal names, or 0. Places count from 0 in what this call was given; only the lines of a text count from 1. What
  * answer and out held before never alters the answer. No function keeps anything between calls, has a heap or calls the system, so
- * several threads may call at once, each with its own memory. Of the C library the archive needs memcpy alone.
+ * several threads may call at once, each with its own memory; a tally that goes on from call to call is the caller's memory too. Of the
+ * C library the archive needs memcpy alone.
  *
- * No value is a bad call: any word, level, N, field, sample and byte of text is answered, at worst by a refusal. Bad calls are
+ * No value is a bad call: any word, level, N, field, sample, count and byte of text is answered, at worst by a refusal. Bad calls are
  * those that C allows and Rattle doesn't. They are the caller's: nothing tests them, and after one nothing that is said here holds.
  *   - No pointer is null, not even where its length is 0 or where nothing is written.
  *   - A pointer is aligned for its type: an even address for words, a multiple of 8 for unsigned long.
  *   - A length counts elements, and its pointer has at least so many. An array has at least the size that stands here.
- *   - What a function writes (answer, out) overlaps nothing else that the call is given. What it only reads may overlap.
- *   - All of it is the caller's own memory during the whole call, and can be read; answer and out can be written. Bytes that were
- *     never set are no fault. No thread, interrupt or device writes any of it, or reads answer and out, before the call is over.
+ *   - What a function writes (answer, out; of a tally chips, codes and largest) overlaps nothing else that the call is given. What it
+ *     only reads may overlap.
+ *   - All of it is the caller's own memory during the whole call, and can be read; what a function writes can be written. Bytes of
+ *     answer and out that were never set are no fault. No thread, interrupt or device writes any of it, or reads what the function
+ *     writes, before the call is over.
  */
 #ifndef ZHAQSUMIR_H
 #define ZHAQSUMIR_H
@@ -45,6 +48,8 @@ enum {
 #define ZHAQSUMIR_MOST_TEXT 65536ul                     /* the bytes of a capture text, at most */
 /* the bytes that a replay is lent */
 #define ZHAQSUMIR_REPLAY_ROOM (ZHAQSUMIR_MOST_CHIPS / 4 * 9 * ZHAQSUMIR_MOST_TEXT + 13)
+#define ZHAQSUMIR_TALLY_CHIPS (ZHAQSUMIR_MOST_CHIPS * 4) /* the counts of a tally, four for each chip */
+#define ZHAQSUMIR_TALLY_CODES 128                       /* and one for each code of seven bits */
 
 /* The refusals, as document 01 numbers them. */
 enum {
@@ -62,8 +67,10 @@ enum {
     ZHAQSUMIR_LONG_TEXT = 11,    /* text longer than 65,536 bytes */
     /* a chip record below N has register above 4,095, custom or code above 127, limit above 7, a readout of a code above 127 or
      * with over 7 bits left, or last scan neither none nor 0 to 63; or the levels kept or given are above 7 (here only the last:
-     * the levels given) */
-    ZHAQSUMIR_BAD_LEVELS = 12
+     * the levels given); or a tally's largest N is above 8 */
+    ZHAQSUMIR_BAD_LEVELS = 12,
+    ZHAQSUMIR_BAD_LARGEST = 12,
+    ZHAQSUMIR_FULL_COUNT = 16    /* some count of a tally plus the line's number of samples and scans is above 2^64 - 1 */
 };
 
 /* The sixteen kinds of command, and their fields in order. */
@@ -108,7 +115,17 @@ enum {
     ZHAQSUMIR_FIND_ANSWER = 5,
 
     ZHAQSUMIR_BYTES_WRITTEN = 2,
-    ZHAQSUMIR_REPLAY_ANSWER = 3
+    ZHAQSUMIR_REPLAY_ANSWER = 3,
+
+    ZHAQSUMIR_TALLY_ANSWER = 2
+};
+
+/* The four counts of a chip in a tally: count i of chip k is chips[4 * k + i]. */
+enum {
+    ZHAQSUMIR_RECORDED = 0,           /* codes recorded */
+    ZHAQSUMIR_READ = 1,               /* read words that found an interrupt: the chip obeyed read key while KEYB was on and one stood */
+    ZHAQSUMIR_OVERWRITTEN = 2,        /* codes recorded over an unread one, while an interrupt stood */
+    ZHAQSUMIR_CLEARED = 3             /* interrupts cleared by reset, or by system parameters with KEYB 0 */
 };
 
 /* Which command a word is.
@@ -162,6 +179,23 @@ void zhaqsumir_find(unsigned char levels, const unsigned char *samples, unsigned
  * out holds what the lines before it wrote and then 1F0A and that number. The bytes written count the refusal's line too. */
 void zhaqsumir_replay(const unsigned char *text, unsigned long length, unsigned char out[ZHAQSUMIR_REPLAY_ROOM],
                       unsigned long answer[3]);
+
+/* Counts what a capture text makes the chips record, and what becomes of it. The counts go on from what the caller hands over, so one
+ * call after another, each with the next text, counts several captures; all zero is a fresh tally. Every text starts its chips reset.
+ * text, length: as for zhaqsumir_replay.
+ * chips: four counts for each of 8 chips, as named above. codes: for each code how many times it was recorded, on all chips together.
+ * largest: the largest N of the texts so far, where the first line was accepted. All three are read, and hold the sums afterwards;
+ * counts of chips from N on stay.
+ * In what one text adds, recorded = read + overwritten + cleared, and one more if an interrupt stands at its end; and what all codes
+ * gain is what all chips recorded.
+ * answer: the refusal that the text ended in, or 0; the number of the refused line from 1, or 0.
+ * Refused: LONG_TEXT (11), with no line number; then BAD_LARGEST (12), where largest holds a number above 8, with no line number. At a
+ * line, with its number: BAD_LINE (10), as for zhaqsumir_replay; then, at no first line, FULL_COUNT (16) exactly where some count of
+ * chips, also of a chip from N on, or of codes is so large that with 1 more for each sample of the line, or 1 for a scan, it would be
+ * above 2^64 - 1. The refused line changes nothing, and what the lines before it counted stands: 11, 12 and a refused first line leave
+ * chips, codes and largest as they were. */
+void zhaqsumir_tally(const unsigned char *text, unsigned long length, unsigned long chips[ZHAQSUMIR_TALLY_CHIPS],
+                     unsigned long codes[ZHAQSUMIR_TALLY_CODES], unsigned long *largest, unsigned long answer[2]);
 
 #ifdef __cplusplus
 }

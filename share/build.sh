@@ -99,9 +99,9 @@ put_in_place() {
     for file in "$run/$1"-*; do [ "$file" = "$built_program" ] || rm -f "$file"; done
 }
 
-# run_built: runs the program
+# run_built WORD..: runs the program with these words
 run_built() {
     emulator=$needs/qemu-x86_64
     [ -x "$emulator" ] || emulator=
-    ${emulator:+"$emulator"} "$needs/ld-linux-x86-64.so.2" --library-path "$needs" "$built_program"
+    ${emulator:+"$emulator"} "$needs/ld-linux-x86-64.so.2" --library-path "$needs" "$built_program" "$@"
 }

@@ -1,15 +1,16 @@
 #!/usr/bin/env python3
 """Shows people what the proved programs wrote. This is presentation: nothing here is proved.
 
-    show.py explain REFUSED    each line of `replay`, with its meaning in words beside it
-    show.py picture REFUSED    each line of `screen`, with the chip's digits drawn below it
+    show.py replay REFUSED     each line of `replay`, with its meaning in words beside it (--explain)
+    show.py screen REFUSED     each line of `screen`, with the chip's digits drawn below it (--picture)
+    show.py tally REFUSED      what the lines of `tally` say, in words and decimal numbers (--explain)
 
 The lines come on standard input. REFUSED is what to say of a refusal line.
 """
 import signal
 import sys
 
-# ---- --explain ----
+# ---- --explain of replay ----
 
 
 def bits(word, *names):
@@ -89,7 +90,29 @@ def explained(lines, refused):
         yield "%-8s    %s" % (line, text)
 
 
-# ---- --picture ----
+# ---- --explain of tally ----
+
+
+def balance(recorded, read, overwritten, cleared):
+    """A chip's four counts in one sum (theorem `text-balance`): what is left are the codes that were unread where a capture ended."""
+    left = recorded - read - overwritten - cleared
+    return "recorded %d = read %d + overwritten %d + cleared %d + %d left unread at %s" % (
+        recorded, read, overwritten, cleared, left, "captures' ends" if left > 1 else "a capture's end")
+
+
+def counted(lines, refused):
+    """What the lines of `tally` say."""
+    for line in lines:
+        frame = bytes.fromhex(line)
+        if frame[0] == 0x13:
+            yield "chip %d: %s" % (frame[1], balance(*(int.from_bytes(frame[at:at + 8], "big") for at in range(2, 34, 8))))
+        elif frame[0] == 0x14:
+            yield "code %02XH, %s: recorded %d" % (frame[1], key_of(frame[1]), int.from_bytes(frame[2:], "big"))
+        else:
+            yield refused
+
+
+# ---- --picture of screen ----
 
 # the segments of a digit as they stand: A above, F and B beside G, E and C beside D, and the point; segment A is bit 0
 ROWS = (
@@ -123,7 +146,7 @@ def drawn(lines, refused):
 
 def main():
     signal.signal(signal.SIGPIPE, signal.SIG_DFL)
-    show = {"explain": explained, "picture": drawn}[sys.argv[1]]
+    show = {"replay": explained, "screen": drawn, "tally": counted}[sys.argv[1]]
     lines = list(show(sys.stdin.read().split(), sys.argv[2]))
     try:
         sys.stdout.write("".join(line + "\n" for line in lines))

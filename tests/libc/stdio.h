@@ -1,2 +1,2 @@
-/* Stands in for <stdio.h> where the kit's compiler builds the example of the README. */
+/* Stands in for <stdio.h> where the kit's compiler builds the examples. */
 #include "libc.h"

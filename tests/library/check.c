@@ -140,7 +140,7 @@ int same(const struct stretch *stretch, unsigned long written)
 void count_answer(struct tally *tally, unsigned long number, unsigned long place)
 {
     tally->compared++;
-    if (number > 12)
+    if (number > 16)
         return;                                         /* the twin never gives it */
     tally->times[number]++;
     if (tally->farthest[number] < place)

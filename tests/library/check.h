@@ -44,8 +44,8 @@ int same(const struct stretch *stretch, unsigned long written);
 struct tally {
     const char *name;
     unsigned long compared;
-    unsigned long times[13];                            /* per refusal; 0 is none */
-    unsigned long farthest[13];                         /* the highest place that it named */
+    unsigned long times[17];                            /* per refusal; 0 is none */
+    unsigned long farthest[17];                         /* the highest place that it named */
 };
 void count_answer(struct tally *tally, unsigned long number, unsigned long place);
 
@@ -61,11 +61,17 @@ void fault(const char *function, unsigned long number, const char *what); /* the
 void show(const struct stretch *answers);               /* the numbers of both answers */
 void must(int holds, const char *what);                 /* a fault of the test itself ends it */
 
+/* ---- a random capture text, a third of them damaged ---- */
+
+enum { MOST_TEXT = 81920 };
+const unsigned char *random_text(unsigned long *size);
+
 /* ---- the parts of the test ---- */
 
 void compare_words(unsigned long count);
 void compare_samples(unsigned long count);
 void compare_texts(unsigned long count);
+void compare_tallies(unsigned long count);
 void compare_capture(const char *text, const char *got);
 
 #endif

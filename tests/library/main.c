@@ -3,10 +3,10 @@
  *
  *     library COUNT SEED [TEXT GOT]...
  *
- * Decode, encode, the writer and the finder get COUNT random inputs each, and the replay a hundredth as many. Each TEXT is replayed,
- * and what the library makes of it is written to the file GOT. What is lent to be written lies between guards and is compared whole;
- * what is lent to be read ends where no byte can be read. The exit status is 0 where all is the same and every refusal that a function
- * can give was given. */
+ * Decode, encode, the writer and the finder get COUNT random inputs each, and the replay and the tally a hundredth as many. Each TEXT is
+ * replayed, and what the library makes of it is written to the file GOT. What is lent to be written lies between guards and is compared
+ * whole; what is lent to be read ends where no byte can be read. The exit status is 0 where all is the same and every refusal that a
+ * function can give was given. */
 #include "check.h"
 #include "libc.h"
 
@@ -23,6 +23,7 @@ int main(int count, char **words)
     for (i = 3; i + 1 < count; i += 2)
         compare_capture(words[i], words[i + 1]);
     compare_texts(inputs / 100);
+    compare_tallies(inputs / 100);
     if (faults > 0)
         printf("library: %lu WRONG\n", faults);
     return faults > 0;

@@ -4,8 +4,6 @@
 #include "twin.h"
 #include "zhaqsumir.h"
 
-enum { MOST_TEXT = 81920 };
-
 static struct stretch answers, outs;
 static struct fence fence;
 static struct tally replayed = { .name = "replay" };
@@ -215,7 +213,7 @@ static void damage(void)
     }
 }
 
-static void random_text(void)
+const unsigned char *random_text(unsigned long *size)
 {
     unsigned long most = once_in(50) ? 60000 : 200 + below(3000);
 
@@ -246,17 +244,20 @@ static void random_text(void)
         while (length < longer)
             text[length++] = '\n';
     }
+    *size = length;
+    return text;
 }
 
 void compare_texts(unsigned long count)
 {
     static const unsigned char refusals[] = { 10, 11, 0 };
-    unsigned long i;
+    unsigned long i, size;
 
     at_first_use();
     for (i = 0; i < count; i++) {
-        random_text();
-        replay_one(text, length);
+        const unsigned char *a_text = random_text(&size);
+
+        replay_one(a_text, size);
     }
     report(&replayed, refusals, 0);
     printf("    words written: %lu, keys: %lu, over unread ones: %lu\n", words_seen, keys_seen, lost_seen);

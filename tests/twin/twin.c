@@ -9,3 +9,4 @@
 #include "keys.c"
 #include "writer.c"
 #include "text.c"
+#include "counts.c"

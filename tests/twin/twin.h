@@ -62,4 +62,17 @@ void twin_replay(const unsigned char *text, unsigned long length, unsigned char 
  * changes them. These lines are the project's own; what they show is document 01's. */
 void twin_screen(const unsigned char *text, unsigned long length, unsigned char out[ROOM(SCREEN_LINE)], unsigned long answer[3]);
 
+/* ---- the tally ---- */
+
+#define CODES 128                                       /* of seven bits */
+
+/* Counts a text, and goes on from what was counted: four counts for each chip, a tally for each code, the largest number of chips. */
+void twin_tally(const unsigned char *text, unsigned long length, unsigned long chips[4 * MOST], unsigned long codes[CODES],
+                unsigned long *largest, unsigned long answer[2]);
+
+/* The lines that tell it, a refusal's last; gives how many bytes they are. */
+#define TALLY_ROOM (69 * MOST + 21 * CODES + 13)
+unsigned long twin_tally_lines(const unsigned long chips[4 * MOST], const unsigned long codes[CODES], unsigned long largest,
+                               const unsigned long answer[2], unsigned char out[TALLY_ROOM]);
+
 #endif
