@@ -22,7 +22,7 @@ pub fn run() {
     finder();
 }
 
-fn verdict(v: Verdict) {
+pub fn verdict(v: Verdict) {
     match v {
         Verdict::Done => put(b"done"),
         Verdict::Refused(e) => {
@@ -47,6 +47,7 @@ pub fn refusal(e: Refusal) {
         Refusal::Line(place) => numbered(10, place),
         Refusal::Text => numbered(11, 0),
         Refusal::Record => numbered(12, 0),
+        Refusal::Count(place) => numbered(16, place),
     }
 }
 

@@ -1,10 +1,12 @@
-// Runs document 01's run-only cases and others of chains, the finder and the writer, and writes a line for each. What it must write
+// Runs document 01's run-only cases and others of chains, the finder, the writer and full counts, and writes a line for each. What it must write
 // stands in the file `stdout`, which was written from document 01.
 mod chains;
+mod full;
 mod text;
 mod writes;
 
 fn main() {
     chains::run();
     writes::run();
+    full::run();
 }
