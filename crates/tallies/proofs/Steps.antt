@@ -8,6 +8,7 @@ use Prim.Native.Nat.{_≤_}
 use native.Mathlib.Nat.{add-zero}
 use native.Mathlib.Omega.{arith}
 use Rattle.base.specs.Bits.{bitValue}
+use Rattle.base.proofs.Cuts.{bit-value-lt}
 use Rattle.word.specs.declared.Command.{Command}
 use Rattle.word.specs.declared.Command.the-variants.{NoOperation, BarLevel, SegmentClear, SegmentSet, Reset, Sleep, ShiftLeft, ShiftRight, RotateLeft, RotateRight, CustomCharacter, SystemParameters, DisplayParameters, BlinkByte, ReadKey, LoadDigit}
 use Rattle.chip.specs.Scans.{Recording, nothing, keyCode, overUnread, releaseNoted}
@@ -18,9 +19,8 @@ use Rattle.tallies.specs.Parts.{AtMostOne}
 pub plus-none : (a : Counts) → plus a noCounts ≡ a
 plus-none a = λ i. counts (add-zero (a .recorded) i) (add-zero (a .read) i) (add-zero (a .overwritten) i) (add-zero (a .cleared) i)
 
-pub bit-few : (b : Bool) → bitValue b ≤ 1
-bit-few true = omega arith
-bit-few false = omega arith
+bit-few : (b : Bool) → bitValue b ≤ 1
+bit-few b = omega (arith, bit-value-lt b)
 
 few : (a b c d : Bool) → AtMostOne (counts (bitValue a) (bitValue b) (bitValue c) (bitValue d))
 few a b c d = record { recorded = bit-few a; read = bit-few b; overwritten = bit-few c; cleared = bit-few d }
