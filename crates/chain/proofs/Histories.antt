@@ -2,6 +2,7 @@
 --     after-append, records-append, times-append     a history in two parts
 --     happened-append, history-append     events in two parts, and their histories
 --     played-happens     playing samples is what they are as events
+--     body-after         what is left of a body depends on the body alone
 --     history-body       a chip's settings, display and key record are those after its history
 --     records-same       and its scans record what its history does
 -- Assumes nothing.

@@ -32,7 +32,8 @@ use Rattle.demands.specs.Exact.{Row, row, each, None, Exactly, SaysExact
 use Rattle.demands.specs.Refusals.{Above, NumbersOutOfRange, BufferShort}
 use Rattle.demands.specs.Tables.{decodeTable, numbersTable, sampleRow, findTable, wordRow, wordRows, writeTable}
 use Rattle.demands.specs.Texts.{lineRow, lineRows, textTable}
-use Rattle.demands.specs.Tallies.{eventsIn, countRows, countLines, countTable}
+use Rattle.demands.specs.Tallies.{countRows, countLines, countTable}
+use Rattle.tallies.specs.Balance.{eventsIn}
 use Rattle.demands.proofs.Conditions.{Tests, passed, failed, leb-tests, both-tests}
 use Rattle.demands.proofs.ByTable.{ByTable, answered, here, later, by-table}
 use Rattle.demands.proofs.Exact.{decode-exact}

@@ -3,7 +3,7 @@
 --     fits-tests      16: some count has no room
 --     count-exact     what is told is what the table says
 -- Assumes nothing.
-use mathlib.Core.Path.{_≡_, refl, ap, subst, _∙_}
+use mathlib.Core.Path.{_≡_, refl, subst, _∙_}
 use mathlib.Core.Bool.{Bool}
 use mathlib.Core.Logic.{_⊎_, inl, inr}
 use mathlib.Core.List.{List, [], _∷_}
@@ -23,12 +23,13 @@ use Rattle.capture.specs.Parts.{chipsIn}
 use Rattle.tallies.specs.declared.Counts.{Counts}
 use Rattle.tallies.specs.declared.Tally.{Tally}
 use Rattle.tallies.specs.Counts.{noCounts}
-use Rattle.tallies.specs.Tallies.{eachPlace, added, largestCount, hasRoom, haveRoom, every, fits}
-use Rattle.tallies.specs.Counted.{countedEvents, countedLine, countedLines, countedAfter, countedAll, walked, countedOf, begun, withChips}
-use Rattle.tallies.specs.Balance.{counting}
+use Rattle.tallies.specs.Tallies.{added, largestCount, hasRoom, haveRoom, every, fits}
+use Rattle.tallies.proofs.Places.{place-length}
+use Rattle.tallies.specs.Counted.{counting, countedEvents, countedLine, countedLines, countedAfter, countedAll, walked, countedOf, begun, withChips}
 use Rattle.demands.specs.Exact.{Row, names, Exactly}
 use Rattle.demands.specs.Texts.{FirstLine, OtherLine}
-use Rattle.demands.specs.Tallies.{CountAbove, ChipAbove, SomeCountAbove, eventsIn, countRows, countLines, countTable}
+use Rattle.demands.specs.Tallies.{CountAbove, ChipAbove, SomeCountAbove, countRows, countLines, countTable}
+use Rattle.tallies.specs.Balance.{eventsIn}
 use Rattle.demands.proofs.Conditions.{Tests, passed, failed, same-tests, leb-tests, both-tests}
 use Rattle.demands.proofs.ByTable.{ByTable, answered, here, later, by-table, tested, told-by-two}
 use Rattle.demands.proofs.LineForms.{FirstView, gives, wrong, first-view, one-to-most, OtherView, as-samples, as-scan, as-none, other-view}
@@ -72,11 +73,6 @@ fits-tests m t size =
     chip c = both-tests (both-tests (both-tests (count (c .recorded)) (count (c .read))) (count (c .overwritten))) (count (c .cleared))
 
 -- events leave as many
-place-length : {A : Type 0} (f : ℕ → A → A) (k : ℕ) (xs : List A) → length (eachPlace f k xs) ≡ length xs
-unfolding eachPlace
-place-length f k [] = refl
-place-length f k (x ∷ xs) = ap suc (place-length f (suc k) xs)
-
 added-sized : (n : ℕ) (es : List Event) (ch : Chain) (t : Tally) → Sized t → Sized (added n es ch t)
 unfolding added Sized
 added-sized n es ch t size = (place-length _ 0 (t .chips) ∙ size .0, place-length _ 0 (t .codes) ∙ size .1)

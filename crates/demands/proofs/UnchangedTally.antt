@@ -21,9 +21,8 @@ use Rattle.lines.specs.Lines.{Line, linesOf, bytesIn}
 use Rattle.capture.specs.Frames.{Form, samples, scan, other, firstOf, formOf}
 use Rattle.tallies.specs.declared.Tally.{Tally}
 use Rattle.tallies.specs.Tallies.{fits}
-use Rattle.tallies.specs.Counted.{countedEvents, countedLine, countedLines, countedAfter, countedAll, walked, countedOf, withChips}
+use Rattle.tallies.specs.Counted.{counting, countedEvents, countedLine, countedLines, countedAfter, countedAll, walked, countedOf, withChips}
 use Rattle.tallies.specs.Parts.{tallyOf}
-use Rattle.tallies.specs.Balance.{counting}
 use Rattle.zhaqsumir.specs.Numbers.{numberIn, placeIn, chipNumbers, tallyIn, TalliesNumbers}
 use Rattle.zhaqsumir.proofs.Counts.{chips-back}
 use Rattle.demands.specs.Unchanged.{tallyBefore, CountRefused, TallyRefused}

@@ -4,23 +4,22 @@
 use mathlib.Core.Path.{_≡_}
 use mathlib.Core.Bool.{false}
 use mathlib.Core.Logic.{_⊎_}
-use mathlib.Core.List.{List, [], _∷_, map}
+use mathlib.Core.List.{List, [], _∷_}
 use Prim.Native.Nat.{ℕ, suc, _+_, _≤_, _<_}
 use lib.ListN.{length, getD}
 use Rattle.chain.specs.declared.Chain.{Chain}
 use Rattle.chain.specs.Chain.{most}
 use Rattle.chain.specs.Entries.{chipAt, startChain}
-use Rattle.chain.specs.Events as Events
-use Rattle.chain.specs.Events.{Event, sample, happened, historyOf}
+use Rattle.chain.specs.Events.{Event, happened, historyOf}
 use Rattle.lines.specs.Lines.{Line, linesOf, bytesIn}
-use Rattle.capture.specs.Frames.{Form, samples, scan, other, firstOf, formOf}
+use Rattle.capture.specs.Frames.{firstOf, formOf}
 use Rattle.capture.specs.Parts.{chipsIn}
 use Rattle.tallies.specs.declared.Counts.{Counts}
 use Rattle.tallies.specs.declared.Tally.{Tally}
 use Rattle.tallies.specs.Counts.{countsOf}
 use Rattle.tallies.specs.Tallies.{added, largestCount}
 use Rattle.tallies.specs.Counted.{withChips}
-use Rattle.tallies.specs.Balance.{countsFor}
+use Rattle.tallies.specs.Balance.{countsFor, eventsIn}
 use Rattle.demands.specs.Exact.{Row, names, row}
 use Rattle.demands.specs.Answers.{Codes, KeptDown, Bounced}
 use Rattle.demands.specs.Texts.{FirstLine, OtherLine}
@@ -54,12 +53,6 @@ abbrev pub SomeCountAbove : ℕ → Tally → Type 0
 SomeCountAbove m t = ((k : ℕ) × (k < most) × ChipAbove m (countsFor k t)) ⊎ ((code : ℕ) × (code < 128) × CountAbove m (getD (t .codes) code 0))
 
 -- ---- the table of a text
-
--- the samples and scans of a line
-abbrev pub eventsIn : Form → List Event
-eventsIn (samples ss) = map sample ss
-eventsIn (scan k bytes) = Events.scan k bytes ∷ []
-eventsIn other = []
 
 -- lines after the first, which gave N, from a line's number on. 10: a line isn't of the form; 16: some count of the tally before the line
 -- plus the number of the line's samples and scans is above the largest. The next line finds what this one leaves

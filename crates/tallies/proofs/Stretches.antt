@@ -1,6 +1,6 @@
 -- Samples counted from one LOAD rise to the next. `Sampling` is the loop's invariant: what is left, played and counted from here, is the
 -- whole played and counted, and every count has room for what is left.
---     one-rise, one-still                     one sample: a LOAD rise, and any other
+--     one-rise, one-still, same-before        one sample: a LOAD rise, and any other, before and after which the counts are the same
 --     stretch-adds, stretch-size              a stretch of samples, up to and with the next LOAD rise
 --     sampling-start                          the loop's start
 --     turn-room, turn-rose, turn-still        a turn: there is room for one more, and the invariant holds again

@@ -1,7 +1,8 @@
 -- What holds of a chip's counts and of the codes' tallies after a whole text, refused or not.
 --     rest-stays      events whose scans are below N leave the chips from N on
 --     text-balance    the balance of each chip
---     text-sum        the codes' tallies
+--     text-sum        the codes' tallies go up by what is recorded
+--     sums-agree      so their sum is what was recorded
 -- Assumes nothing.
 use mathlib.Core.Path.{_≡_, refl, ap, sym, subst, _∙_}
 use mathlib.Core.Bool.{Bool, true, false}
@@ -33,7 +34,7 @@ use Rattle.tallies.specs.declared.walk.Counting.{Counting}
 use Rattle.tallies.specs.Counts.{noCounts, plus}
 use Rattle.tallies.specs.Tallies.{ownHistory, countsAt, added}
 use Rattle.tallies.specs.Counted.{walked}
-use Rattle.tallies.specs.Balance.{standing, gone, GoUpAlike, Played, withLargest, countsFor, TextsBalance, TextsAddUp}
+use Rattle.tallies.specs.Balance.{standing, gone, total, GoUpAlike, Played, withLargest, chipsOf, takenOf, countsFor, TextsBalance, TextsAddUp, SumsAgree}
 use Rattle.tallies.proofs.Balance.{balance}
 use Rattle.tallies.proofs.Places.{place-at}
 use Rattle.tallies.proofs.Sums.{events-add-up}
@@ -77,21 +78,21 @@ goes-on {u} t c before later e z even =
     let q = ap gone e in
     omega arith
 
-played-balance : (t : Tally) (s : Counting) → Played t s → length (t .chips) ≡ most → (k : ℕ) → k < most
+played-balance : {n : ℕ} {es : List Event} (t : Tally) (s : Counting) → Played n es t s → length (t .chips) ≡ most → (k : ℕ) → k < most
     → countsFor k (s .tally) .recorded + gone (countsFor k t) ≡ countsFor k t .recorded + gone (countsFor k (s .tally)) + standing (chipAt k (s .chain))
 unfolding added
-played-balance t s p size k h =
-    goes-on (countsFor k t) (countsAt (p .count) (p .events) startChain k) (standing (chipAt k startChain)) (standing (chipAt k (s .chain)))
+played-balance {n} {es} t s p size k h =
+    goes-on (countsFor k t) (countsAt n es startChain k) (standing (chipAt k startChain)) (standing (chipAt k (s .chain)))
     counted (start-stands k h)
-    (balance (ownHistory k (p .count) (p .events) startChain) (chipAt k startChain) ∙ ap (λ x. gone (countsAt (p .count) (p .events) startChain k) + x) stands)
+    (balance (ownHistory k n es startChain) (chipAt k startChain) ∙ ap (λ x. gone (countsAt n es startChain k) + x) stands)
   where
-    counted : countsFor k (s .tally) ≡ plus (countsFor k t) (countsAt (p .count) (p .events) startChain k)
+    counted : countsFor k (s .tally) ≡ plus (countsFor k t) (countsAt n es startChain k)
     counted =
         ap (countsFor k) (p .tally)
-        ∙ place-at (λ j x. plus x (countsAt (p .count) (p .events) startChain j)) (t .chips) k noCounts (subst (λ m. k < m) (sym size) h)
+        ∙ place-at (λ j x. plus x (countsAt n es startChain j)) (t .chips) k noCounts (subst (λ m. k < m) (sym size) h)
 
-    stands : standing (after (ownHistory k (p .count) (p .events) startChain) (chipAt k startChain)) ≡ standing (chipAt k (s .chain))
-    stands = stands-so (p .count) k (p .few) (p .events) startChain (p .below) refl ∙ ap (λ (ch : Chain). standing (chipAt k ch)) (sym (p .chain))
+    stands : standing (after (ownHistory k n es startChain) (chipAt k startChain)) ≡ standing (chipAt k (s .chain))
+    stands = stands-so n k (p .few) es startChain (p .below) refl ∙ ap (λ (ch : Chain). standing (chipAt k ch)) (sym (p .chain))
 
 pub text-balance : TextsBalance
 text-balance t text size k h = played-balance t (walked t text .state) (text-plays t text) size k h
@@ -101,4 +102,9 @@ text-balance t text size k h = played-balance t (walked t text .state) (text-pla
 pub text-sum : TextsAddUp
 text-sum t text chips codes =
     let p = text-plays t text in
-    subst (GoUpAlike t) (sym (p .tally)) (events-add-up (p .count) (p .events) startChain (withLargest (p .largest) t) chips codes)
+    subst (GoUpAlike t) (sym (p .tally))
+    (events-add-up (chipsOf text) (takenOf t text) startChain (withLargest (walked t text .state .tally .largest) t) chips codes)
+
+pub sums-agree : SumsAgree
+unfolding total
+sums-agree = record { start = refl; kept = λ t text chips codes e. let s = text-sum t text chips codes in omega arith }

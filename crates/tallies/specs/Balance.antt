@@ -2,28 +2,36 @@
 -- add up to the codes recorded.
 -- Assumes nothing.
 use mathlib.Core.Path.{_≡_}
-use Prim.Native.Nat.{ℕ, _+_, _≤_, _<_}
+use Prim.Native.Nat.{ℕ, suc, _+_, _≤_, _<_}
 use mathlib.Core.Bool.{true}
-use mathlib.Core.List.{List, [], _∷_, map}
+use mathlib.Core.List.{List, [], _∷_, _++_, map}
+use lib.Dec.{leb}
 use lib.ListN.{length, getD}
 use Rattle.base.specs.Below.{sumBelow}
 use Rattle.base.specs.Bits.{bitValue}
+use Rattle.base.specs.Pick.{pick}
+use Rattle.base.specs.Refusals.{Told, done, refused}
 use Rattle.word.specs.declared.Command.the-variants.{ReadKey}
 use Rattle.chip.specs.declared.Chip.{Chip}
 use Rattle.chip.specs.Record.{none, valid, resetChip, withKeys}
 use Rattle.chip.specs.Commands.{applied}
 use Rattle.chip.specs.Scans.{codeOf, scanned}
-use Rattle.chip.specs.History.{Step, told, scan, after, times}
+use Rattle.chip.specs.History as History
+use Rattle.chip.specs.History.{Step, told, after, times}
 use Rattle.chain.specs.declared.Chain.{Chain}
 use Rattle.chain.specs.Chain.{most}
 use Rattle.chain.specs.Entries.{startChain, chipAt}
-use Rattle.chain.specs.Events.{Event, happened, ScansBelow}
+use Rattle.chain.specs.Events as Events
+use Rattle.chain.specs.Events.{Event, sample, happened, ScansBelow}
+use Rattle.lines.specs.Lines.{Line, linesOf, bytesIn}
+use Rattle.capture.specs.Frames.{Form, samples, scan, other, formOf, firstOf}
+use Rattle.capture.specs.Parts.{firstIn, chipsIn}
 use Rattle.tallies.specs.declared.Counts.{Counts}
 use Rattle.tallies.specs.declared.Tally.{Tally}
 use Rattle.tallies.specs.declared.walk.Counting.{Counting}
 use Rattle.tallies.specs.Counts.{noCounts, commandCounts, countsOf}
-use Rattle.tallies.specs.Tallies.{added}
-use Rattle.tallies.specs.Counted.{walked, countedOf}
+use Rattle.tallies.specs.Tallies.{fresh, added}
+use Rattle.tallies.specs.Counted.{countedLine, begun, withChips, walked, countedOf}
 
 -- ---- the balance of a chip
 
@@ -46,7 +54,7 @@ Balances = (h : List Step) (c : Chip) → standing c + countsOf h c .recorded �
 unfoldable pub readAnyhow : List Step → Chip → ℕ
 readAnyhow [] c = 0
 readAnyhow (told command ∷ h) c = commandCounts command true (c .keys .interrupt) .read + readAnyhow h (applied command c)
-readAnyhow (scan bytes ∷ h) c = readAnyhow h (scanned bytes c)
+readAnyhow (History.scan bytes ∷ h) c = readAnyhow h (scanned bytes c)
 
 -- a chip with KEYB off and an interrupt
 abbrev pub unreadOff : Chip
@@ -93,22 +101,51 @@ EventsAddUp = (n : ℕ) (es : List Event) (ch : Chain) (t : Tally) → length (t
 abbrev pub withLargest : ℕ → Tally → Tally
 withLargest n t = record { chips = t .chips; codes = t .codes; largest = n }
 
--- a chain and a tally, as a line finds and leaves them
-abbrev pub counting : Chain → Tally → Counting
-counting ch t = record { chain = ch; tally = t }
+-- the samples and scans of a line
+abbrev pub eventsIn : Form → List Event
+eventsIn (samples ss) = map sample ss
+eventsIn (scan k bytes) = Events.scan k bytes ∷ []
+eventsIn other = []
 
--- a chain and a tally are what the samples and scans of the lines that were taken leave of a started chain and a tally, but for the largest N
-pub record Played (t : Tally) (s : Counting) : Type 0 where
-  pub count : ℕ
-  pub largest : ℕ
-  pub events : List Event
-  pub few : count ≤ most
-  pub below : ScansBelow count events
-  pub chain : s .chain ≡ happened count events startChain
-  pub tally : s .tally ≡ added count events startChain (withLargest largest t)
+-- those of a line that was taken, and then others; none, where it was refused
+abbrev pub takenThen : Told (Unit {0}) → List Event → List Event → List Event
+takenThen (done u) es later = es ++ later
+takenThen (refused number place) es later = []
 
+-- those of lines, up to the first that is refused
+unfoldable pub takenIn : ℕ → ℕ → Counting → List Line → List Event
+takenIn n line s [] = []
+takenIn n line s (l ∷ ls) =
+    let o = countedLine n line s (formOf n (bytesIn l)) in
+    takenThen (o .told) (eventsIn (formOf n (bytesIn l))) (takenIn n (suc line) (o .state) ls)
+
+-- those of the lines after the first
+abbrev pub takenAfter : Tally → Told ℕ → List Line → List Event
+takenAfter t (done n) ls = takenIn n 2 (begun (withChips n t)) ls
+takenAfter t (refused number place) ls = []
+
+abbrev pub takenAll : Tally → List Line → List Event
+takenAll t [] = []
+takenAll t (l ∷ ls) = takenAfter t (firstOf (bytesIn l)) ls
+
+-- those of a text
+abbrev pub takenOf : Tally → List ℕ → List Event
+takenOf t text = pick (leb (length text) 65536) (pick (leb (t .largest) most) (takenAll t (linesOf text)) []) []
+
+-- the number of chips that a text's first line gives
+abbrev pub chipsOf : List ℕ → ℕ
+chipsOf text = chipsIn (firstIn (linesOf text))
+
+-- a chain and a tally are what events leave of a started chain of N chips and of a tally, but for the largest N
+pub record Played (n : ℕ) (es : List Event) (t : Tally) (s : Counting) : Type 0 where
+  pub few : n ≤ most
+  pub below : ScansBelow n es
+  pub chain : s .chain ≡ happened n es startChain
+  pub tally : s .tally ≡ added n es startChain (withLargest (s .tally .largest) t)
+
+-- after a text they are what the samples and scans of the lines that were taken leave
 abbrev pub TextsPlay : Type 0
-TextsPlay = (t : Tally) (text : List ℕ) → Played t (walked t text .state)
+TextsPlay = (t : Tally) (text : List ℕ) → Played (chipsOf text) (takenOf t text) t (walked t text .state)
 
 -- the counts of chip k
 abbrev pub countsFor : ℕ → Tally → Counts
@@ -127,3 +164,9 @@ TextsBalance =
 -- and the tallies of all codes go up by what the codes recorded on all chips do
 abbrev pub TextsAddUp : Type 0
 TextsAddUp = (t : Tally) (text : List ℕ) → length (t .chips) ≡ most → length (t .codes) ≡ 128 → GoUpAlike t (countedOf t text .state)
+
+-- so the sum of the tallies of all codes is the codes recorded on all chips: at the start, and if before a text, then after it
+pub record SumsAgree : Type 0 where
+  pub start : allTallied fresh ≡ allRecorded fresh
+  pub kept : (t : Tally) (text : List ℕ) → length (t .chips) ≡ most → length (t .codes) ≡ 128 → allTallied t ≡ allRecorded t
+      → allTallied (countedOf t text .state) ≡ allRecorded (countedOf t text .state)

@@ -6,6 +6,7 @@ use lib.Dec.{leb}
 use lib.ListN.{length}
 use Rattle.base.specs.Pick.{pick}
 use Rattle.base.specs.Refusals.{Told, done, refused, Outcome, handsBack, verdictTells}
+use Rattle.chain.specs.declared.Chain.{Chain}
 use Rattle.chain.specs.Chain.{most}
 use Rattle.chain.specs.Entries.{startChain, onceTested}
 use Rattle.chain.specs.Events as Events
@@ -17,13 +18,17 @@ use Rattle.tallies.specs.declared.Counted.{Counted}
 use Rattle.tallies.specs.declared.walk.Counting.{Counting}
 use Rattle.tallies.specs.Tallies.{added, fits}
 
+-- a chain and a tally, as a line finds and leaves them
+abbrev pub counting : Chain → Tally → Counting
+counting ch t = record { chain = ch; tally = t }
+
 -- ---- a line
 
--- a line finds and leaves a chain and a tally (`Counting`). Its samples and scans are counted where every count has room for so many; else refusal 16, and nothing is changed
+-- the samples and scans of a line are counted where every count has room for so many; else refusal 16, and nothing is changed
 abbrev pub countedEvents : ℕ → ℕ → Counting → List Event → Outcome Counting (Unit {0})
 countedEvents n line s es =
     pick (fits (length es) (s .tally))
-    (record { state = record { chain = happened n es (s .chain); tally = added n es (s .chain) (s .tally) }; told = done tt })
+    (record { state = counting (happened n es (s .chain)) (added n es (s .chain) (s .tally)); told = done tt })
     (handsBack s 16 line)
 
 -- a line after the first: 10 before 16
@@ -43,7 +48,7 @@ countedLines n line s (l ∷ ls) =
 
 -- a tally before a capture's first line, with its chain
 abbrev pub begun : Tally → Counting
-begun t = record { chain = startChain; tally = t }
+begun t = counting startChain t
 
 -- the larger of two numbers
 abbrev pub larger : ℕ → ℕ → ℕ

@@ -19,6 +19,7 @@ use Rattle.tallies.specs.declared.Counts.{Counts}
 use Rattle.tallies.specs.declared.Tally.{Tally}
 use Rattle.tallies.specs.declared.walk.Counting.{Counting}
 use Rattle.tallies.specs.declared.walk.Took.{Took}
+use Rattle.tallies.specs.Counted.{counting}
 use Rattle.tallies.specs.Counts.{plus, recordCounts, stepCounts}
 use Rattle.tallies.specs.Tallies.{eachPlace, added}
 
@@ -67,7 +68,7 @@ scannedTally k what t =
 
 -- the chain and the tally after events that are counted
 abbrev pub countingAfter : ℕ → List Event → Counting → Counting
-countingAfter n es s = record { chain = happened n es (s .chain); tally = added n es (s .chain) (s .tally) }
+countingAfter n es s = counting (happened n es (s .chain)) (added n es (s .chain) (s .tally))
 
 -- what a line leaves and tells
 abbrev pub tookOf : Took → Outcome Counting (Unit {0})
