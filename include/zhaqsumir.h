@@ -65,11 +65,9 @@ enum {
     ZHAQSUMIR_BAD_FIELD = 9,     /* a command field is out of range */
     ZHAQSUMIR_BAD_LINE = 10,     /* a line isn't of the form that zhaqsumir_replay asks for, the first missing included */
     ZHAQSUMIR_LONG_TEXT = 11,    /* text longer than 65,536 bytes */
-    /* a chip record below N has register above 4,095, custom or code above 127, limit above 7, a readout of a code above 127 or
-     * with over 7 bits left, or last scan neither none nor 0 to 63; or the levels kept or given are above 7 (here only the last:
-     * the levels given); or a tally's largest N is above 8 */
-    ZHAQSUMIR_BAD_LEVELS = 12,
-    ZHAQSUMIR_BAD_LARGEST = 12,
+    /* 12 is for values that are handed over. Document 01 has more of them, chip records and levels kept; no function here takes these */
+    ZHAQSUMIR_BAD_LEVELS = 12,   /* the levels given are above 7 */
+    ZHAQSUMIR_BAD_LARGEST = 12,  /* a tally's largest N is above 8 */
     ZHAQSUMIR_FULL_COUNT = 16    /* some count of a tally plus the line's number of samples and scans is above 2^64 - 1 */
 };
 
