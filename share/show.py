@@ -3,11 +3,12 @@
 
     show.py replay REFUSED     each line of `replay`, with its meaning in words beside it (--explain)
     show.py screen REFUSED     each line of `screen`, with the chip's digits drawn below it (--picture)
-    show.py tally REFUSED      what the lines of `tally` say, in words and decimal numbers (--explain)
+    show.py tally REFUSED      what the lines of `tally` say, in two tables with decimal numbers (--explain)
 
 The lines come on standard input. REFUSED is what to say of a refusal line.
 """
 import signal
+import struct
 import sys
 
 # ---- --explain of replay ----
@@ -93,23 +94,42 @@ def explained(lines, refused):
 # ---- --explain of tally ----
 
 
-def balance(recorded, read, overwritten, cleared):
-    """A chip's four counts in one sum (theorem `text-balance`): what is left are the codes that were unread where a capture ended."""
-    left = recorded - read - overwritten - cleared
-    return "recorded %d = read %d + overwritten %d + cleared %d + %d left unread at %s" % (
-        recorded, read, overwritten, cleared, left, "captures' ends" if left > 1 else "a capture's end")
+# the tables' heads and forms: a chip's counts stand as a sum
+CHIPS = ("chip", "recorded", "read", "overwritten", "cleared", "left unread"), "%s  %s = %s + %s + %s + %s"
+CODES = ("code", "key", "DIG", "SEG", "recorded"), "%s  %s  %s  %s  %s"
+
+
+def table(head, form, rows):
+    """Rows of words and numbers below their head, each column as wide as it must be."""
+    cells = [head] + [[str(cell) for cell in row] for row in rows]
+    widths = [max(map(len, column)) for column in zip(*cells)]
+    return [form % tuple(cell.rjust(width) for cell, width in zip(row, widths)) for row in cells]
+
+
+def chip_row(chip, recorded, read, overwritten, cleared):
+    """A chip's counts; what is left were unread where a capture ended or was refused (theorem `text-balance`, added up)."""
+    return chip, recorded, read, overwritten, cleared, recorded - read - overwritten - cleared
+
+
+def code_row(code, recorded):
+    """A code, which is 40H + its key's address, 8 SEG + DIG."""
+    address = code - 0x40
+    return "%02XH" % code, "%02XH" % address, address % 8, address // 8, recorded
 
 
 def counted(lines, refused):
     """What the lines of `tally` say."""
-    for line in lines:
-        frame = bytes.fromhex(line)
-        if frame[0] == 0x13:
-            yield "chip %d: %s" % (frame[1], balance(*(int.from_bytes(frame[at:at + 8], "big") for at in range(2, 34, 8))))
-        elif frame[0] == 0x14:
-            yield "code %02XH, %s: recorded %d" % (frame[1], key_of(frame[1]), int.from_bytes(frame[2:], "big"))
-        else:
-            yield refused
+    frames = [bytes.fromhex(line) for line in lines]
+    chips = [chip_row(frame[1], *struct.unpack(">4Q", frame[2:])) for frame in frames if frame[0] == 0x13]
+    codes = [code_row(frame[1], *struct.unpack(">Q", frame[2:])) for frame in frames if frame[0] == 0x14]
+    if chips:
+        yield from table(*CHIPS, chips)
+        yield "left unread: stood unread where a capture ended" + (", or before the refused line" if refused else "")
+    if codes:
+        yield ""
+        yield from table(*CODES, codes)
+    if refused:
+        yield from [""] * bool(chips) + [refused]
 
 
 # ---- --picture of screen ----
