@@ -137,40 +137,40 @@ int same(const struct stretch *stretch, unsigned long written)
 
 /* ---- counts ---- */
 
-void count_answer(struct tally *tally, unsigned long number, unsigned long place)
+void count_answer(struct seen *seen, unsigned long number, unsigned long place)
 {
-    tally->compared++;
+    seen->compared++;
     if (number > 16)
         return;                                         /* the twin never gives it */
-    tally->times[number]++;
-    if (tally->farthest[number] < place)
-        tally->farthest[number] = place;
+    seen->times[number]++;
+    if (seen->farthest[number] < place)
+        seen->farthest[number] = place;
 }
 
-void report(const struct tally *tally, const unsigned char refusals[], unsigned long far_on)
+void report(const struct seen *seen, const unsigned char refusals[], unsigned long far_on)
 {
     int i;
 
-    printf("%s: %lu compared; not refused %lu", tally->name, tally->compared, tally->times[0]);
+    printf("%s: %lu compared; not refused %lu", seen->name, seen->compared, seen->times[0]);
     for (i = 0; refusals[i] != 0; i++) {
         unsigned number = refusals[i];
 
-        printf(", refused %u: %lu", number, tally->times[number]);
-        if (tally->farthest[number] > 0)
-            printf(" (places up to %lu)", tally->farthest[number]);
+        printf(", refused %u: %lu", number, seen->times[number]);
+        if (seen->farthest[number] > 0)
+            printf(" (places up to %lu)", seen->farthest[number]);
     }
     printf("\n");
     for (i = 0; refusals[i] != 0; i++) {
         unsigned number = refusals[i];
         int placed = number == 1 || number == 6 || number == 7;
 
-        if (tally->times[number] == 0 || (placed && tally->farthest[number] < far_on)) {
-            printf("WRONG: %s, refusal %u was never reached, or never far on\n", tally->name, number);
+        if (seen->times[number] == 0 || (placed && seen->farthest[number] < far_on)) {
+            printf("WRONG: %s, refusal %u was never reached, or never far on\n", seen->name, number);
             faults++;
         }
     }
-    if (tally->times[0] == 0)
-        fault(tally->name, 0, "nothing was answered without a refusal");
+    if (seen->times[0] == 0)
+        fault(seen->name, 0, "nothing was answered without a refusal");
 }
 
 /* ---- faults ---- */

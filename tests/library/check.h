@@ -41,17 +41,18 @@ int same(const struct stretch *stretch, unsigned long written);
 
 /* ---- counts ---- */
 
-struct tally {
+/* What was seen of a function's answers. */
+struct seen {
     const char *name;
     unsigned long compared;
     unsigned long times[17];                            /* per refusal; 0 is none */
     unsigned long farthest[17];                         /* the highest place that it named */
 };
-void count_answer(struct tally *tally, unsigned long number, unsigned long place);
+void count_answer(struct seen *seen, unsigned long number, unsigned long place);
 
 /* Prints the counts; a refusal of the list (ended by 0) that was never given, or not at a place so far on, is a fault. No refusal
  * counts as one of them. */
-void report(const struct tally *tally, const unsigned char refusals[], unsigned long far_on);
+void report(const struct seen *seen, const unsigned char refusals[], unsigned long far_on);
 
 /* ---- faults ---- */
 

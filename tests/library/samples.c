@@ -55,7 +55,7 @@ static unsigned short unlisted_word(void)
 
 /* ---- the writer ---- */
 
-static struct tally written = { .name = "write" };
+static struct seen written = { .name = "write" };
 static struct fence lists;
 
 static unsigned long chips(void)
@@ -160,7 +160,7 @@ static void write_one(void)
 
 /* ---- the finder ---- */
 
-static struct tally found = { .name = "find" };
+static struct seen found = { .name = "find" };
 static struct fence blocks;
 static unsigned long rises, nones, farthest;
 

@@ -9,7 +9,7 @@ enum { COUNTS = ZHAQSUMIR_TALLY_CHIPS + ZHAQSUMIR_TALLY_CODES, LARGEST = COUNTS,
 
 static struct stretch chips, codes, largest, answers;
 static struct fence fence;
-static struct tally tallied = { .name = "tally" };
+static struct seen tallied = { .name = "tally" };
 static unsigned long given[NUMBERS];                    /* a tally: the chips' counts, the codes', the largest N */
 static unsigned long read_seen, over_seen, cleared_seen, filled_seen, later_seen;
 

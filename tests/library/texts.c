@@ -6,7 +6,7 @@
 
 static struct stretch answers, outs;
 static struct fence fence;
-static struct tally replayed = { .name = "replay" };
+static struct seen replayed = { .name = "replay" };
 static unsigned long words_seen, keys_seen, lost_seen;
 
 static void replay_one(const unsigned char *text, unsigned long length)

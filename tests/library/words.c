@@ -8,7 +8,7 @@ static struct stretch answers;
 
 /* ---- decode ---- */
 
-static struct tally decoded = { .name = "decode" };
+static struct seen decoded = { .name = "decode" };
 static unsigned long of_kind[16];
 
 static void decode_one(unsigned short word)
@@ -49,7 +49,7 @@ static void decode_all(unsigned long count)
 
 /* ---- encode ---- */
 
-static struct tally encoded = { .name = "encode" };
+static struct seen encoded = { .name = "encode" };
 static struct fence commands;
 static unsigned long legal_of[16], refused_of[16];
 
