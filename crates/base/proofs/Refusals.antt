@@ -21,7 +21,7 @@ by-number =
     ∷ Unlisted
     ∷ Keypad
     ∷ (λ place. Room)
-    ∷ (λ place. Field)
+    ∷ Field
     ∷ Line
     ∷ (λ place. Text)
     ∷ (λ place. Record)
@@ -43,7 +43,7 @@ number-small Rows = omega arith
 number-small (Unlisted place) = omega arith
 number-small (Keypad place) = omega arith
 number-small Room = omega arith
-number-small Field = omega arith
+number-small (Field place) = omega arith
 number-small (Line place) = omega arith
 number-small Text = omega arith
 number-small Record = omega arith
@@ -59,7 +59,7 @@ refusal-back Rows = refl
 refusal-back (Unlisted place) = refl
 refusal-back (Keypad place) = refl
 refusal-back Room = refl
-refusal-back Field = refl
+refusal-back (Field place) = refl
 refusal-back (Line place) = refl
 refusal-back Text = refl
 refusal-back Record = refl

@@ -6,7 +6,7 @@ ghost use Rattle.base.specs.Refusals.{numberOf, placeOf};
 
 // Why an input was refused, with the place that document 01 names, where it names one.
 pub enum Refusal {
-    // 1: a sample is above 7; the lowest such place.
+    // 1: a sample is above 7, of two wires above 3; the lowest such place.
     Sample(u64),
     // 2: a scan's chip is not below N; so is a chip that is named for a command or to be looked at.
     ScanChip,
@@ -14,7 +14,7 @@ pub enum Refusal {
     ChipCount,
     // 4: the list's length isn't a multiple of N.
     PartRow,
-    // 5: more than 64 rows.
+    // 5: more than 64 rows, of a CH450 64 commands.
     Rows,
     // 6: a word is unlisted or above 4,095; its place in the list, 0 for a word alone.
     Unlisted(u64),
@@ -22,8 +22,8 @@ pub enum Refusal {
     Keypad(u64),
     // 8: the buffer is shorter than the samples.
     Room,
-    // 9: a command field is out of range.
-    Field,
+    // 9: a command field is out of range; the command's place in its list, 0 for a command alone.
+    Field(u64),
     // 10: a line isn't of the form; its number from 1.
     Line(u64),
     // 11: the text is longer than 65,536 bytes.
@@ -53,7 +53,7 @@ pub fn number(e: Refusal) -> u64
         Refusal::Unlisted(_) => 6,
         Refusal::Keypad(_) => 7,
         Refusal::Room => 8,
-        Refusal::Field => 9,
+        Refusal::Field(_) => 9,
         Refusal::Line(_) => 10,
         Refusal::Text => 11,
         Refusal::Record => 12,
@@ -74,7 +74,7 @@ pub fn place(e: Refusal) -> u64
         Refusal::Unlisted(at) => at,
         Refusal::Keypad(at) => at,
         Refusal::Room => 0,
-        Refusal::Field => 0,
+        Refusal::Field(at) => at,
         Refusal::Line(at) => at,
         Refusal::Text => 0,
         Refusal::Record => 0,

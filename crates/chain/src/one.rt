@@ -110,7 +110,7 @@ pub fn apply(n: usize, chain: Chain, k: usize, command: Command) -> HandedChain
             if !word::is_legal(command) {
                 return HandedChain {
                     chain,
-                    answer: Verdict::Refused(Refusal::Field),
+                    answer: Verdict::Refused(Refusal::Field(0)),
                 };
             }
             if k >= n {

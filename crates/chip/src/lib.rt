@@ -181,7 +181,7 @@ pub fn apply(chip: Chip, command: Command) -> HandedChip
     if !word::is_legal(command) {
         return HandedChip {
             chip,
-            answer: Verdict::Refused(Refusal::Field),
+            answer: Verdict::Refused(Refusal::Field(0)),
         };
     }
     HandedChip {

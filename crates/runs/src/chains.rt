@@ -43,7 +43,7 @@ pub fn refusal(e: Refusal) {
         Refusal::Unlisted(place) => numbered(6, place),
         Refusal::Keypad(place) => numbered(7, place),
         Refusal::Room => numbered(8, 0),
-        Refusal::Field => numbered(9, 0),
+        Refusal::Field(place) => numbered(9, place),
         Refusal::Line(place) => numbered(10, place),
         Refusal::Text => numbered(11, 0),
         Refusal::Record => numbered(12, 0),

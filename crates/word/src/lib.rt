@@ -199,7 +199,7 @@ fn leading(bits: u16, value: u8, most: u8) -> Encoded
     ensures { λ r. ⌜ encodedTells r ≡ pick (leb value most) (done (bits + value)) (refused 9 0) ⌝ }
 {
     if value > most {
-        return Encoded::Refused(Refusal::Field);
+        return Encoded::Refused(Refusal::Field(0));
     }
     Encoded::Word(bits + value as u16)
 }
@@ -219,7 +219,7 @@ fn display_word(d: Display) -> Encoded
     ensures { λ r. ⌜ encodedTells r ≡ encodedOf (Command.DisplayParameters d) ⌝ }
 {
     if d.limit > MOST_LIMIT {
-        return Encoded::Refused(Refusal::Field);
+        return Encoded::Refused(Refusal::Field(0));
     }
     Encoded::Word(0b010100000000 + 128 * base::bit_value(d.mode) + 16 * (d.limit as u16))
 }
@@ -228,7 +228,7 @@ fn digit_word(digit: u8, byte: u8) -> Encoded
     ensures { λ r. ⌜ encodedTells r ≡ encodedOf (Command.LoadDigit digit byte) ⌝ }
 {
     if digit > MOST_DIGIT {
-        return Encoded::Refused(Refusal::Field);
+        return Encoded::Refused(Refusal::Field(0));
     }
     Encoded::Word(0b100000000000 + 256 * (digit as u16) + byte as u16)
 }
