@@ -8,3 +8,4 @@ pub mod Refusals
 pub mod Unique
 pub mod Claims
 pub mod Lent
+pub mod Stores

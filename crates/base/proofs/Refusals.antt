@@ -1,12 +1,15 @@
--- A refusal's number and place say which refusal it is, so a promise that fixes both fixes the refusal; a number is a byte.
+-- A refusal's number and place say which refusal it is, so a promise that fixes both fixes the refusal; a number is a byte. And what
+-- follows from a verdict: `by-done`, `by-refusal`.
 -- Assumes nothing.
-use mathlib.Core.Path.{_≡_, refl}
+use mathlib.Core.Path.{_≡_, refl, ap, sym, _∙_}
 use Prim.Native.Nat.{ℕ, _<_}
 use native.Mathlib.Omega.{arith}
 use mathlib.Core.List.{List, [], _∷_}
 use lib.ListN.{getD}
-use Rattle.base.specs.Refusals.{numberOf, placeOf}
+use Rattle.base.specs.Refusals.{Told, numberOf, placeOf, refusedBy, verdictTells, Outcome, onceTested}
 use Rattle.base.specs.declared.Refusal.{Refusal}
+use Rattle.base.specs.declared.Verdict.{Verdict}
+use Rattle.base.specs.declared.Verdict.the-variants.{Done, Refused}
 use Rattle.base.specs.declared.Refusal.the-variants.{Sample, ScanChip, ChipCount, PartRow, Rows, Unlisted, Keypad, Room, Field, Line, Text, Record, Count}
 
 -- the refusals by their numbers, from 0 up; there is none with the numbers 0 and 13 to 15, and 16 stands for every number from there on
@@ -64,3 +67,14 @@ refusal-back (Line place) = refl
 refusal-back Text = refl
 refusal-back Record = refl
 refusal-back (Count place) = refl
+
+-- ---- an entry after a test that was passed, and after one that was not
+
+pub by-done : {S A : Type 0} {v : Verdict} {t : Told (Unit {0})} (given : S) (next : Outcome S A) → verdictTells v ≡ t → v ≡ Done → onceTested t given next ≡ next
+by-done given next e q = ap (λ x. onceTested x given next) (sym e ∙ ap verdictTells q)
+
+pub by-refusal : {S A : Type 0} {v : Verdict} {t : Told (Unit {0})} {r : Refusal} (given : S) (next : Outcome S A)
+    → verdictTells v ≡ t
+    → v ≡ Refused r
+    → onceTested t given next ≡ record { state = given; told = refusedBy r }
+by-refusal given next e q = ap (λ x. onceTested x given next) (sym e ∙ ap verdictTells q)

@@ -65,3 +65,8 @@ pub record Outcome (S A : Type 0) : Type 0 where
 -- a refusal, with the value as it was given (zeros where none was given)
 abbrev pub handsBack : {S A : Type 0} → S → ℕ → ℕ → Outcome S A
 handsBack s number place = record { state = s; told = refused number place }
+
+-- what a test that was passed leads to; one that was not hands back what is given for that: the state, or zeros
+abbrev pub onceTested : {S A : Type 0} → Told (Unit {0}) → S → Outcome S A → Outcome S A
+onceTested (done u) given next = next
+onceTested (refused number place) given next = handsBack given number place

@@ -1,7 +1,7 @@
 -- One line of a text, from a place on, as the walks over a text read it.
 --     line-cut, line-next          a last line without 0AH; a line that was ended, and those after it
 --     after-line                   what comes after a line that was ended
---     held-same                    what a frame holds serves as well as the line's bytes
+--     held-same, frame-same        what a frame holds serves as well as the line's bytes
 --     frame-count, frame-form      how many bytes a frame holds, and that they are of the line's form
 -- Assumes nothing.
 use mathlib.Core.Path.{_≡_, refl, ap, sym, _∙_}
@@ -27,7 +27,7 @@ use Rattle.capture.proofs.Forms.{form-long}
 -- ---- what a frame holds
 
 -- no bytes are of no form
-none-other : (n : ℕ) → other ≡ formOf n []
+pub none-other : (n : ℕ) → other ≡ formOf n []
 unfolding formOf
 none-other n = refl
 
@@ -64,13 +64,18 @@ module _ (text : List ℕ) (place end : ℕ) where
     line-next more =
         lines-next left (omega (arith, length-drop place text)) ∙ ap (λ rest. ended (take (lineLength left) left) ∷ linesOf rest) after-line
 
-    pub frame-form : (n : ℕ) (f : Frame) → f ≡ frameFor (heldIn (take (end - place) left))
-        → formOf n (heldBy f) ≡ formOf n (bytesIn (ended (take (lineLength left) left)))
-    frame-form n f reads =
+    -- what reads a line's bytes, and more than 33 as none, reads what its frame holds as the line
+    pub frame-same {ℓ} : {A : Type ℓ} (g : List ℕ → A) → ((bytes : List ℕ) → 33 < length bytes → g bytes ≡ g []) → (f : Frame)
+        → f ≡ frameFor (heldIn (take (end - place) left))
+        → g (heldBy f) ≡ g (bytesIn (ended (take (lineLength left) left)))
+    frame-same g long f reads =
         let same : end - place ≡ lineLength left = omega arith in
         let holds = frame-holds (take (end - place) left) reads in
-        ap (formOf n) (holds .front ∙ ap (λ m. heldIn (take m left)) same)
-        ∙ held-same (formOf n) (λ bytes h. form-long n bytes h ∙ none-other n) (take (lineLength left) left)
+        ap g (holds .front ∙ ap (λ m. heldIn (take m left)) same) ∙ held-same g long (take (lineLength left) left)
+
+    pub frame-form : (n : ℕ) (f : Frame) → f ≡ frameFor (heldIn (take (end - place) left))
+        → formOf n (heldBy f) ≡ formOf n (bytesIn (ended (take (lineLength left) left)))
+    frame-form n = frame-same (formOf n) (λ bytes h. form-long n bytes h ∙ none-other n)
 
   pub frame-count : (f : Frame) → f ≡ frameFor (heldIn (take (end - place) left)) → f .count ≤ 33
   frame-count f reads = let holds = frame-holds (take (end - place) left) reads in omega (arith, holds .count, holds .room)

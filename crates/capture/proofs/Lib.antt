@@ -4,6 +4,7 @@ pub mod Forms
 pub mod Read
 pub mod EachLine
 pub mod Walks
+pub mod Walked
 pub mod Firsts
 pub mod Room
 pub mod Law

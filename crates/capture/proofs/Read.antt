@@ -1,4 +1,5 @@
 -- What a caller of `form_of` knows by its answer, of the bytes given and of an array that holds them at its front.
+--     nextOf, front-so                the front of a list, by its places
 --     samples-read, samples-long      samples: the form, and how many bytes there are
 --     scan-read, scan-bounds          a scan: the form, how many bytes there are, and the chip is below N
 --     other-read                      of no form
@@ -93,7 +94,7 @@ front-rest (x ∷ fb) (suc count) h =
     ap (λ m. take m fb) same
 
 -- the next so many, by their places
-nextOf : List ℕ → ℕ → ℕ → List ℕ
+unfoldable pub nextOf : List ℕ → ℕ → ℕ → List ℕ
 nextOf xs i zero = []
 nextOf xs i (suc more) = getD xs i 0 ∷ nextOf xs (suc i) more
 
@@ -102,7 +103,7 @@ unfolding nextOf
 next-tail x xs i zero = refl
 next-tail x xs i (suc more) = ap (λ r. getD xs i 0 ∷ r) (next-tail x xs (suc i) more)
 
-front-so : (xs : List ℕ) (count : ℕ) → count ≤ length xs → take count xs ≡ nextOf xs 0 count
+pub front-so : (xs : List ℕ) (count : ℕ) → count ≤ length xs → take count xs ≡ nextOf xs 0 count
 unfolding nextOf
 front-so xs zero h = refl
 front-so [] (suc count) h = absurd (omega arith)

@@ -111,7 +111,7 @@ rises-room what n ss ch h = omega (arith, rises-spare what n ss ch h, spare-le (
 
 -- ---- one line
 
-bytes-room : (l : Line) → 2 * length (bytesIn l) ≤ charsIn (l ∷ [])
+pub bytes-room : (l : Line) → 2 * length (bytesIn l) ≤ charsIn (l ∷ [])
 unfolding charsIn
 bytes-room (ended cs) =
     pick-cases (λ bytes. 2 * length bytes ≤ length cs + 1 + 0) (allHex cs && eqb (length cs % 2) 0) {x = bytesOf cs} {y = []} (λ _. omega (arith, bytes-length cs))
@@ -147,7 +147,7 @@ module _ (what : Report) (n : ℕ) (ch : Chain) (h : n ≤ most) where
 
 -- ---- lines
 
-chars-more : (l : Line) (ls : List Line) → charsIn (l ∷ ls) ≡ charsIn (l ∷ []) + charsIn ls
+pub chars-more : (l : Line) (ls : List Line) → charsIn (l ∷ ls) ≡ charsIn (l ∷ []) + charsIn ls
 unfolding charsIn
 chars-more (ended cs) ls = omega arith
 chars-more (cutOff cs) ls = omega arith

@@ -13,12 +13,12 @@ use lib.ListN.{length, getD, drop, drop-of-length-le}
 use Rattle.base.specs.Pick.{pick}
 use Rattle.base.proofs.Lent.{Fills, fills-start, fills-more, fills-room, fills-over}
 use Rattle.base.proofs.Picks.{pick-yes, pick-no}
+use Rattle.base.proofs.Lists.{rest-is}
 use Rattle.chip.specs.Edges.{loadRises}
 use Rattle.chain.specs.declared.Chain.{Chain}
 use Rattle.chain.specs.declared.play.Stretch.{Stretch}
 use Rattle.chain.specs.Chain.{steppedChain, played}
 use Rattle.chain.specs.Stretch.{stretchFrom}
-use Rattle.chain.proofs.Rest.{rest-is}
 use Rattle.chain.proofs.Stretch.{each-stretch, stretch-plays}
 use Rattle.lines.specs.Answers.{Puts}
 use Rattle.capture.specs.declared.Report.{Report}

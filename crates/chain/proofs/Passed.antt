@@ -13,7 +13,7 @@ use borrow.Author.Tests.{lt-ltb}
 use lib.Dec.{T, leb}
 use lib.ListN.{getD, set, replicate}
 use Rattle.base.specs.Pick.{pick}
-use Rattle.base.specs.Refusals.{Told, done, refused, handsBack}
+use Rattle.base.specs.Refusals.{Told, done, refused, handsBack, onceTested}
 use Rattle.base.proofs.Picks.{pick-yes}
 use Rattle.base.proofs.Tests.{and-left, and-right, and-both, is-true}
 use Rattle.chip.specs.declared.Chip.{Chip}
@@ -22,7 +22,7 @@ use Rattle.chip.specs.Scans.{scanned, recorded}
 use Rattle.chip.proofs.Valid.{reset-valid, scanned-valid}
 use Rattle.chain.specs.declared.Chain.{Chain}
 use Rattle.chain.specs.Chain.{most, chipCount, allValid, validChain, testedOf, checkedFrom, played}
-use Rattle.chain.specs.Entries.{onceTested, chipAt, withChip, startChain, startedOf, playedOf, scannedOf}
+use Rattle.chain.specs.Entries.{chipAt, withChip, startChain, startedOf, playedOf, scannedOf}
 
 -- ---- the tests
 

@@ -17,6 +17,7 @@ use lib.ListN.{length, getD, set, take, drop, take-append-drop, drop-of-length-l
 use lib.Seq.{drop-cons, take-suc-set, drop-set-lt}
 use Rattle.base.specs.Pick.{pick}
 use Rattle.base.specs.Refusals.{done, refused}
+use Rattle.base.proofs.Lists.{rest-is}
 use Rattle.chip.specs.declared.Chip.{Chip}
 use Rattle.chip.specs.Record.{valid}
 use Rattle.chip.specs.Commands.{dout}
@@ -24,10 +25,6 @@ use Rattle.chip.specs.Edges.{loadRises, stepped}
 use Rattle.chain.specs.declared.Chain.{Chain}
 use Rattle.chain.specs.Chain.{allValid, checkedFrom, steppedRow, steppedChain, played}
 use Rattle.chain.specs.Finder.{riseAt, noRise, riseFrom}
-
--- the rest begins with the element at its place
-pub rest-is {ℓ} : {A : Type ℓ} (xs : List A) (i : ℕ) (d : A) → i < length xs → drop i xs ≡ getD xs i d ∷ drop (i + 1) xs
-rest-is xs i d h = drop-cons xs i d h ∙ ap (λ n. getD xs i d ∷ drop n xs) (sym (add-one i))
 
 -- one fewer is left
 one-fewer : (n k : ℕ) → k < n → n - k ≡ suc (n - (k + 1))

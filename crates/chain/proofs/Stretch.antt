@@ -16,6 +16,7 @@ use lib.ListN.{length, getD, drop, drop-of-length-le}
 use Rattle.base.specs.Pick.{pick}
 use Rattle.base.proofs.Picks.{pick-no, pick-cases}
 use Rattle.base.proofs.Tests.{by-order}
+use Rattle.base.proofs.Lists.{rest-is}
 use Rattle.chip.specs.declared.Chip.{Chip}
 use Rattle.chip.specs.Commands.{dout}
 use Rattle.chip.specs.Edges.{din, loadRises, stepped}
@@ -23,7 +24,7 @@ use Rattle.chain.specs.declared.Chain.{Chain}
 use Rattle.chain.specs.declared.play.Stretch.{Stretch}
 use Rattle.chain.specs.Chain.{steppedRow, steppedChain, played}
 use Rattle.chain.specs.Stretch.{stretchFrom}
-use Rattle.chain.proofs.Rest.{rest-is, row-length, play-more}
+use Rattle.chain.proofs.Rest.{row-length, play-more}
 
 -- no sample is left, and LOAD did not rise
 abbrev pub ended : ℕ → Chain → Stretch

@@ -1,31 +1,15 @@
--- What the tests that come first tell, and what follows from a verdict.
---     by-done, by-refusal     an entry after a test that was passed, and after one that was not
+-- What the tests that come first tell.
 --     tested-done             a chain that passed has 1 to 8 chips and valid records
 -- Assumes nothing.
-use mathlib.Core.Path.{_≡_, ap, sym, subst, _∙_}
+use mathlib.Core.Path.{_≡_, sym, subst}
 use mathlib.Core.Bool.{Bool, true, false}
 use Prim.Native.Nat.{ℕ, _≤_}
 use lib.Dec.{T, leb, leb→le}
 use Rattle.base.specs.Pick.{pick}
-use Rattle.base.specs.Refusals.{Told, IsDone, done, refused, refusedBy, Outcome, verdictTells}
-use Rattle.base.specs.declared.Refusal.{Refusal}
-use Rattle.base.specs.declared.Verdict.{Verdict}
-use Rattle.base.specs.declared.Verdict.the-variants.{Done, Refused}
+use Rattle.base.specs.Refusals.{IsDone, done, refused}
 use Rattle.base.proofs.Tests.{and-left, and-right}
 use Rattle.chain.specs.declared.Chain.{Chain}
 use Rattle.chain.specs.Chain.{most, chipCount, validChain, testedOf}
-use Rattle.chain.specs.Entries.{onceTested}
-
-pub by-done : {S A : Type 0} {v : Verdict} {t : Told (Unit {0})} (given : S) (next : Outcome S A) → verdictTells v ≡ t → v ≡ Done → onceTested t given next ≡ next
-by-done given next e q = ap (λ x. onceTested x given next) (sym e ∙ ap verdictTells q)
-
-pub by-refusal : {S A : Type 0} {v : Verdict} {t : Told (Unit {0})} {r : Refusal} (given : S) (next : Outcome S A)
-    → verdictTells v ≡ t
-    → v ≡ Refused r
-    → onceTested t given next ≡ record { state = given; told = refusedBy r }
-by-refusal given next e q = ap (λ x. onceTested x given next) (sym e ∙ ap verdictTells q)
-
--- ---- the tests on a chain
 
 both-passed : (a b : Bool) → IsDone {A = Unit {0}} (pick a (pick b (done tt) (refused 12 0)) (refused 3 0)) → T a × T b
 both-passed true true t = (tt, tt)

@@ -6,7 +6,7 @@ use mathlib.Core.List.{List}
 use lib.Dec.{ltb}
 use lib.ListN.{getD, set, replicate}
 use Rattle.base.specs.Pick.{pick}
-use Rattle.base.specs.Refusals.{Told, done, refused, Outcome, handsBack, verdictTells}
+use Rattle.base.specs.Refusals.{done, Outcome, handsBack, verdictTells, onceTested}
 use Rattle.word.specs.declared.Command.{Command}
 use Rattle.word.specs.Words.{legal}
 use Rattle.chip.specs.declared.Chip.{Chip}
@@ -26,11 +26,6 @@ use Rattle.chain.specs.Chain.{most, chipCount, checkedFrom, testedOf, pl
 -- a chain handed back
 abbrev pub handedChain : HandedChain → Outcome Chain (Unit {0})
 handedChain r = record { state = r .chain; told = verdictTells (r .answer) }
-
--- what a test that was passed leads to; one that was not hands back what is given for that: the state, or zeros
-abbrev pub onceTested : {S A : Type 0} → Told (Unit {0}) → S → Outcome S A → Outcome S A
-onceTested (done u) given next = next
-onceTested (refused number place) given next = handsBack given number place
 
 -- ---- start
 

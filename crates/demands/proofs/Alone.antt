@@ -10,7 +10,7 @@ use borrow.Author.Tests.{le-leb}
 use lib.Dec.{leb}
 use lib.ListN.{length}
 use Rattle.base.specs.Pick.{pick}
-use Rattle.base.specs.Refusals.{Told, done, refused, Outcome, handsBack}
+use Rattle.base.specs.Refusals.{Told, done, refused, Outcome, handsBack, onceTested}
 use Rattle.word.specs.declared.Command.{Command}
 use Rattle.word.specs.Words.{legal}
 use Rattle.chip.specs.declared.Chip.{Chip}
@@ -22,7 +22,7 @@ use Rattle.chip.specs.Segments.{litOf}
 use Rattle.chip.specs.Entries as One
 use Rattle.chain.specs.declared.Chain.{Chain}
 use Rattle.chain.specs.Chain.{most, allValid, testedOf, checkedFrom, steppedRow, played}
-use Rattle.chain.specs.Entries.{onceTested, chipAt, withChip, playedOf, scannedOf, appliedOf, segmentsOf}
+use Rattle.chain.specs.Entries.{chipAt, withChip, playedOf, scannedOf, appliedOf, segmentsOf}
 use Rattle.demands.specs.Alone.{SameAlone, AloneIsOne}
 
 -- the first tests of a chain of one

@@ -6,12 +6,12 @@
 use mathlib.Core.List.{List, [], _∷_, _++_}
 use Prim.Native.Nat.{ℕ, suc}
 use lib.Dec.{leb, ltb}
-use Rattle.base.specs.Refusals.{Told, done, refused, Outcome}
+use Rattle.base.specs.Refusals.{Told, done, refused, Outcome, onceTested}
 use Rattle.word.specs.declared.Command.{Command}
 use Rattle.word.specs.Words.{legal}
 use Rattle.chain.specs.declared.Chain.{Chain}
 use Rattle.chain.specs.Chain.{chipCount, checkedFrom, testedOf}
-use Rattle.chain.specs.Entries.{onceTested, startedOf, playedOf, scannedOf, appliedOf, segmentsOf, seenOf}
+use Rattle.chain.specs.Entries.{startedOf, playedOf, scannedOf, appliedOf, segmentsOf, seenOf}
 use Rattle.chain.specs.Finder.{reported, lookedOf, foundOf}
 use Rattle.demands.specs.Exact.{Row, each, Exactly}
 use Rattle.demands.specs.Tables.{sampleRow, startTable, chainTable, playTable, oneTable, oneApplyTable, findTable}

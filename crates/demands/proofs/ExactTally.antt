@@ -12,10 +12,10 @@ use native.Mathlib.Nat.{not-suc-le-zero, le-of-suc-le-suc, zero-lt-suc}
 use lib.Dec.{leb}
 use lib.ListN.{length, getD}
 use Rattle.base.specs.Pick.{pick}
-use Rattle.base.specs.Refusals.{Told, done, Outcome, handsBack}
+use Rattle.base.specs.Refusals.{Told, done, Outcome, handsBack, onceTested}
 use Rattle.chain.specs.declared.Chain.{Chain}
 use Rattle.chain.specs.Chain.{most}
-use Rattle.chain.specs.Entries.{startChain, onceTested}
+use Rattle.chain.specs.Entries.{startChain}
 use Rattle.chain.specs.Events.{Event, happened}
 use Rattle.lines.specs.Lines.{Line, linesOf, bytesIn}
 use Rattle.capture.specs.Frames.{Form, firstOf, formOf}

@@ -13,14 +13,14 @@ use lib.ListN.{length, getD, take, drop}
 use lib.Seq.{take-at, drop-at}
 use Rattle.base.specs.Lent.{laid}
 use Rattle.base.specs.Pick.{pick}
-use Rattle.base.specs.Refusals.{Told, done, refused, Outcome}
+use Rattle.base.specs.Refusals.{Told, done, refused, Outcome, onceTested}
 use Rattle.word.specs.declared.Command.{Command}
 use Rattle.word.specs.Words.{decodedOf, legal}
 use Rattle.chip.specs.Record.{valid}
 use Rattle.chip.specs.Entries as One
 use Rattle.chain.specs.Chain.{chipCount, checkedFrom, testedOf}
 use Rattle.chain.specs.Finder.{Report, reported, noReport, lookedOf, foundOf}
-use Rattle.chain.specs.Entries.{onceTested, startedOf, playedOf, scannedOf, appliedOf, segmentsOf, seenOf}
+use Rattle.chain.specs.Entries.{startedOf, playedOf, scannedOf, appliedOf, segmentsOf, seenOf}
 use Rattle.writer.specs.Rows.{written}
 use Rattle.writer.specs.Written.{answerOf, bytesBy}
 use Rattle.capture.specs.declared.Report as Capture

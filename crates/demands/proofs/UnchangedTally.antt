@@ -10,11 +10,11 @@ use Prim.Native.Nat.{ℕ, suc, _-_, _≤_}
 use native.Mathlib.Omega.{arith}
 use lib.Dec.{leb}
 use lib.ListN.{length, getD, take}
-use Rattle.base.specs.Refusals.{Told, done, refused, Outcome, handsBack}
+use Rattle.base.specs.Refusals.{Told, done, refused, Outcome, handsBack, onceTested}
 use Rattle.base.proofs.Picks.{pick-cases}
 use Rattle.chain.specs.declared.Chain.{Chain}
 use Rattle.chain.specs.Chain.{most}
-use Rattle.chain.specs.Entries.{startChain, onceTested}
+use Rattle.chain.specs.Entries.{startChain}
 use Rattle.chain.specs.Events as Events
 use Rattle.chain.specs.Events.{Event, sample}
 use Rattle.lines.specs.Lines.{Line, linesOf, bytesIn}

@@ -15,11 +15,11 @@ use lib.Seq.{take-at}
 use Rattle.base.specs.Lent.{laid, placed}
 use Rattle.base.proofs.Lent.{Fills, fills-start, fills-more, fills-over}
 use Rattle.base.proofs.Picks.{pick-yes, pick-no, pick-cases}
+use Rattle.base.proofs.Stores.{one-put}
 use Rattle.lines.specs.declared.Frame.{Frame}
 use Rattle.lines.specs.Answers.{heldIn, frameFor, heldBy}
 use Rattle.lines.specs.Lines.{ended, allHex, bytesOf, bytesIn}
 use Rattle.lines.proofs.Lines.{byteAt, bytes-more, bytes-over, bytes-half}
-use Rattle.lines.proofs.Stores.{one-put}
 
 -- ---- an array filled with bytes
 

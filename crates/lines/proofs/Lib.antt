@@ -1,4 +1,3 @@
-pub mod Stores
 pub mod Lines
 pub mod Frames
 pub mod Puts

@@ -16,15 +16,11 @@ use native.Mathlib.Omega.{arith}
 use borrow.Author.Tests.{le-leb, lt-leb, eq-eqb, ne-eqb}
 use lib.Dec.{T, ltb, ltb→lt}
 use lib.ListN.{length, getD, take, drop, length-append, length-drop, drop-of-length-le}
-use lib.Seq.{drop-cons}
 use Rattle.base.proofs.Picks.{pick-yes, pick-no}
 use Rattle.base.proofs.Tests.{and-left, and-right, by-equality}
+use Rattle.base.proofs.Lists.{rest-is}
 use Rattle.lines.specs.Lines.{newline, Line, ended, cutOff, before, linesOf, hexOf, allHex, bytesOf}
 use Rattle.lines.specs.Answers.{lineLength}
-
--- the rest begins with the element at its place
-rest-is : (xs : List ℕ) (i : ℕ) → i < length xs → drop i xs ≡ getD xs i 0 ∷ drop (i + 1) xs
-rest-is xs i h = drop-cons xs i 0 h ∙ ap (λ n. getD xs i 0 ∷ drop n xs) (sym (add-one i))
 
 -- ---- a hexadecimal digit
 
@@ -59,7 +55,7 @@ hex-past ch h =
 
 pub hex-more : (cs : List ℕ) (i : ℕ) → i < length cs → allHex (drop i cs) ≡ (ltb (hexOf (getD cs i 0)) 16 && allHex (drop (i + 1) cs))
 unfolding allHex
-hex-more cs i h = ap allHex (rest-is cs i h)
+hex-more cs i h = ap allHex (rest-is cs i 0 h)
 
 pub hex-over : (cs : List ℕ) (i : ℕ) → length cs ≤ i → allHex (drop i cs) ≡ true
 unfolding allHex
@@ -80,7 +76,7 @@ byteAt cs k = 16 * hexOf (getD cs k 0) + hexOf (getD cs (k + 1) 0)
 pub bytes-more : (cs : List ℕ) (i : ℕ) → 2 * i + 1 < length cs → bytesOf (drop (2 * i) cs) ≡ byteAt cs (2 * i) ∷ bytesOf (drop (2 * (i + 1)) cs)
 unfolding bytesOf
 bytes-more cs i h =
-    ap bytesOf (rest-is cs (2 * i) (omega arith) ∙ ap (λ r. getD cs (2 * i) 0 ∷ r) (rest-is cs (2 * i + 1) h))
+    ap bytesOf (rest-is cs (2 * i) 0 (omega arith) ∙ ap (λ r. getD cs (2 * i) 0 ∷ r) (rest-is cs (2 * i + 1) 0 h))
     ∙ ap (λ n. byteAt cs (2 * i) ∷ bytesOf (drop n cs)) next
   where
     next : 2 * i + 1 + 1 ≡ 2 * (i + 1)
@@ -116,11 +112,11 @@ unfolding lineLength
 goes-on ch text n = pick-no 0 (suc (lineLength text)) (ne-eqb ch newline n)
 
 pub end-here : (text : List ℕ) (at : ℕ) → at < length text → getD text at 0 ≡ newline → lineLength (drop at text) ≡ 0
-end-here text at h e = ap lineLength (rest-is text at h) ∙ stops (getD text at 0) (drop (at + 1) text) e
+end-here text at h e = ap lineLength (rest-is text at 0 h) ∙ stops (getD text at 0) (drop (at + 1) text) e
 
 pub end-more : (text : List ℕ) (at : ℕ) → at < length text → (getD text at 0 ≡ newline → ⊥)
     → lineLength (drop at text) ≡ suc (lineLength (drop (at + 1) text))
-end-more text at h n = ap lineLength (rest-is text at h) ∙ goes-on (getD text at 0) (drop (at + 1) text) n
+end-more text at h n = ap lineLength (rest-is text at 0 h) ∙ goes-on (getD text at 0) (drop (at + 1) text) n
 
 pub end-over : (text : List ℕ) (at : ℕ) → length text ≤ at → lineLength (drop at text) ≡ 0
 unfolding lineLength

@@ -17,9 +17,9 @@ use lib.Seq.{drop-cons}
 use Rattle.base.specs.Lent.{placed}
 use Rattle.base.proofs.Lent.{placed-none, Fills, fills-start, fills-more, fills-over}
 use Rattle.base.proofs.Picks.{pick-yes, pick-no}
+use Rattle.base.proofs.Stores.{one-put, two-put}
 use Rattle.lines.specs.Answers.{fitting, Puts}
 use Rattle.lines.specs.Lines.{newline, hexFor, asHex, lineFor}
-use Rattle.lines.proofs.Stores.{one-put, two-put}
 
 -- ---- a hexadecimal digit
 

@@ -10,11 +10,11 @@ use lib.Dec.{eqb, leb, ltb}
 use lib.ListN.{length}
 use borrow.Author.Tests.{leb-true, ltb-true}
 use Rattle.base.specs.Pick.{pick}
-use Rattle.base.specs.Refusals.{Told, done, refused, Outcome, handsBack}
+use Rattle.base.specs.Refusals.{Told, done, refused, Outcome, handsBack, onceTested}
 use Rattle.base.proofs.Picks.{pick-cases}
 use Rattle.chain.specs.declared.Chain.{Chain}
 use Rattle.chain.specs.Chain.{most, checkedFrom}
-use Rattle.chain.specs.Entries.{startChain, onceTested}
+use Rattle.chain.specs.Entries.{startChain}
 use Rattle.chain.specs.Events as Events
 use Rattle.chain.specs.Events.{Event, sample, happened, ScansBelow}
 use Rattle.chain.proofs.Histories.{happened-append}

@@ -16,6 +16,7 @@ use lib.Dec.{ltb}
 use lib.ListN.{length, getD, drop, drop-of-length-le}
 use Rattle.base.specs.Pick.{pick}
 use Rattle.base.proofs.Picks.{pick-yes, pick-no}
+use Rattle.base.proofs.Lists.{rest-is}
 use Rattle.word.specs.Words.{decodedOf}
 use Rattle.chip.specs.Record.{bodyOf, resetChip}
 use Rattle.chip.specs.Edges.{din, loadRises}
@@ -29,7 +30,7 @@ use Rattle.chain.specs.Stretch.{stretchFrom}
 use Rattle.chain.proofs.Histories.{played-happens}
 use Rattle.chain.proofs.Laws.{quiet-chain}
 use Rattle.chain.proofs.Places.{part-at}
-use Rattle.chain.proofs.Rest.{rest-is, row-length}
+use Rattle.chain.proofs.Rest.{row-length}
 use Rattle.chain.proofs.Stretch.{each-stretch, stretch-fewer, stretch-plays}
 use Rattle.tallies.specs.declared.Counts.{Counts}
 use Rattle.tallies.specs.declared.Tally.{Tally}

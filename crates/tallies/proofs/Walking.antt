@@ -14,11 +14,11 @@ use native.Mathlib.Numerals.{add-one}
 use native.Mathlib.Omega.{arith}
 use borrow.Author.Tests.{le-leb, lt-leb}
 use lib.ListN.{length, take, drop, drop-of-length-le}
-use Rattle.base.specs.Refusals.{Told, done, refused, Outcome, handsBack}
+use Rattle.base.specs.Refusals.{Told, done, refused, Outcome, handsBack, onceTested}
 use Rattle.base.proofs.Picks.{pick-yes, pick-no}
 use Rattle.chain.specs.Chain.{most}
 use Rattle.chain.specs.declared.HandedChain.{HandedChain}
-use Rattle.chain.specs.Entries.{onceTested, handedChain, startedOf}
+use Rattle.chain.specs.Entries.{handedChain, startedOf}
 use Rattle.lines.specs.declared.Frame.{Frame}
 use Rattle.lines.specs.Answers.{lineLength, heldIn, frameFor, heldBy}
 use Rattle.lines.specs.Lines.{Line, ended, linesOf, bytesIn}

@@ -5,10 +5,10 @@ use mathlib.Core.List.{List, [], _∷_, map}
 use lib.Dec.{leb}
 use lib.ListN.{length}
 use Rattle.base.specs.Pick.{pick}
-use Rattle.base.specs.Refusals.{Told, done, refused, Outcome, handsBack, verdictTells}
+use Rattle.base.specs.Refusals.{Told, done, refused, Outcome, handsBack, verdictTells, onceTested}
 use Rattle.chain.specs.declared.Chain.{Chain}
 use Rattle.chain.specs.Chain.{most}
-use Rattle.chain.specs.Entries.{startChain, onceTested}
+use Rattle.chain.specs.Entries.{startChain}
 use Rattle.chain.specs.Events as Events
 use Rattle.chain.specs.Events.{Event, sample, happened}
 use Rattle.lines.specs.Lines.{Line, linesOf, bytesIn}

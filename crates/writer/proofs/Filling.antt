@@ -17,6 +17,7 @@ use lib.Seq.{take-all, drop-cons, take-suc-set}
 use Rattle.base.specs.Bits.{cut}
 use Rattle.base.specs.Lent.{placed}
 use Rattle.base.proofs.Lent.{placed-length, placed-take, placed-drop}
+use Rattle.base.proofs.Stores.{part-put}
 use Rattle.writer.specs.Rows.{rowSamples, wordBits, rowBits, clocking}
 
 -- ---- bits and samples
@@ -121,7 +122,7 @@ put out a k ys = take a out ++ (ys ++ drop k (drop a out))
 module _ (out : List ℕ) (a k : ℕ) (ys : List ℕ) (fits : a + k ≤ length out) (whole : length ys ≡ k) where
   -- it is the piece put from a on
   put-is : put out a k ys ≡ placed a ys out
-  put-is = ap (λ n. take a out ++ (ys ++ drop n (drop a out))) (sym whole)
+  put-is = part-put out a k ys whole
 
   within : a + length ys ≤ length out
   within = omega arith

@@ -3,8 +3,9 @@
 use mathlib.Core.Path.{ap, sym, _∙_}
 use mathlib.Core.Bool.{Bool}
 use Rattle.base.specs.Refusals.{done, verdictTells}
+use Rattle.base.proofs.Refusals.{by-done, by-refusal}
 use Rattle.chip.specs.Commands.{dout}
-use Rattle.chain.proofs.Tested.{by-done, by-refusal, tested-done, count-low}
+use Rattle.chain.proofs.Tested.{tested-done, count-low}
 use borrow.Author.Needs.{needs}
 use Rattle.chain.proofs.host_sees.Statement.{statement}
 use Rattle.chain.proofs.host_sees.Tie as tie

@@ -7,6 +7,7 @@ use borrow.Author.Tests.{not-true, not-false}
 use lib.ListN.{length, drop}
 use Rattle.lines.specs.Lines.{linesOf}
 use Rattle.capture.specs.Replay.{linesOut, linesEnd}
+use Rattle.capture.proofs.Walked.{takesLine, line-reader, lines-walked, ends-walked}
 use Rattle.capture.proofs.Walks.{Walks, walks-start, walks-over, cut-room, walks-cut, walks-count, walks-room, walks-refusal-room, walks-refused, walks-more}
 use borrow.Author.Needs.{needs}
 use Rattle.capture.proofs.walk.lines.Statement.{statement}
@@ -14,7 +15,7 @@ use Rattle.capture.proofs.walk.lines.Tie as tie
 
 abbrev Inv-loop : tie.InvT-loop
 Inv-loop what n text from out₀ next₀ number₀ at₀ place₀ out next number at place =
-    Walks what n text (linesOut what n 2 next₀ (linesOf (drop from text))) (linesEnd n 2 (linesOf (drop from text))) out₀ out next number at place
+    Walks (takesLine what n) text (linesOut what n 2 next₀ (linesOf (drop from text))) (linesEnd n 2 (linesOf (drop from text))) out₀ out next number at place
 
 abbrev μ-loop : tie.MeasureT-loop
 μ-loop what n text from out₀ next₀ number₀ at₀ place₀ out next number at place = length text - place
@@ -23,13 +24,14 @@ loop-holds : tie.Need-loop-holds Inv-loop μ-loop
 loop-holds c =
     let a = c .before .before .args in
     let p = c .before .before .pre in
-    walks-start (a .what) (a .n) (a .text .now) (a .out .now) (a .chain) (a .from) (p .1 .0 .0) (p .1 .0 .1) (p .1 .1)
+    walks-start (takesLine (a .what) (a .n)) (a .text .now) (a .out .now) (a .chain) (a .from) (lines-walked (a .what) (a .n) 2 (a .chain) _)
+    (ends-walked (a .what) (a .n) 2 (a .chain) _) (p .1 .0 .0) (p .1 .0 .1) (p .1 .1)
 
 wrong-line-requires : tie.Need-wrong-line-requires Inv-loop μ-loop
 wrong-line-requires c κs =
     let l = c .before .before .before .before .loop in
     let e = c .before .before .line-end in
-    cut-room (l .inv) (e .result) (e .ensures) (c .before .before .before .loop-test .taken) (c .before .if1 .taken)
+    cut-room (line-reader _ _) (l .inv) (e .result) (e .ensures) (c .before .before .before .loop-test .taken) (c .before .if1 .taken)
 
 same-length : tie.Need-same-length Inv-loop μ-loop
 same-length c = search (needs, c .before .before .before .before .before .before .before .loop .inv .fills .size)
@@ -38,7 +40,7 @@ returns : tie.Need-returns Inv-loop μ-loop
 returns c =
     let l = c .before .before .before .before .before .before .before .loop in
     let e = c .before .before .before .before .before .line-end in
-    walks-cut (l .inv) (e .result) (e .ensures) (c .before .before .before .before .before .before .loop-test .taken)
+    walks-cut (line-reader _ _) (l .inv) (e .result) (e .ensures) (c .before .before .before .before .before .before .loop-test .taken)
     (c .before .before .before .before .if1 .taken) (c .before .before .wrong-line .ensures)
 
 sub-frame-of : tie.Need-sub-frame-of Inv-loop μ-loop
@@ -55,8 +57,8 @@ line-requires c κs =
     let l = c .before .before .before .before .before .before .loop in
     let e = c .before .before .before .before .line-end in
     let f = c .before .frame-of in
-    let count = walks-count (l .inv) (e .result) (e .ensures) (c .before .before .before .if1 .left) (f .result) (f .ensures) in
-    (c .before .before .before .before .before .before .before .before .before .pre .0, (count, walks-room (l .inv) (e .result) (e .ensures) (c .before .before .before .if1 .left) (f .result) (f .ensures)))
+    let count = walks-count (line-reader _ _) (l .inv) (e .result) (e .ensures) (c .before .before .before .if1 .left) (f .result) (f .ensures) in
+    (c .before .before .before .before .before .before .before .before .before .pre .0, (count, walks-room (line-reader _ _) (l .inv) (e .result) (e .ensures) (c .before .before .before .if1 .left) (f .result) (f .ensures)))
 
 wrong-line-requires-2 : tie.Need-wrong-line-requires-2 Inv-loop μ-loop
 wrong-line-requires-2 c κs =
@@ -64,8 +66,8 @@ wrong-line-requires-2 c κs =
     let e = c .before .before .before .before .before .before .before .before .before .before .line-end in
     let f = c .before .before .before .before .before .before .before .frame-of in
     let t = c .before .before .before .before .before .line in
-    walks-refusal-room (l .inv) (e .result) (e .ensures) (c .before .before .before .before .before .before .before .before .before .if1 .left) (f .result) (f .ensures)
-    (t .result) (t .ensures) (not-true (t .result .taken) (c .before .if2 .taken))
+    walks-refusal-room (line-reader _ _) (l .inv) (e .result) (e .ensures) (c .before .before .before .before .before .before .before .before .before .if1 .left) (f .result) (f .ensures)
+    (t .ensures .taken) (t .ensures .puts) (not-true (t .result .taken) (c .before .if2 .taken))
 
 same-length-2 : tie.Need-same-length-2 Inv-loop μ-loop
 same-length-2 c = search (needs, c .before .before .before .before .before .before .before .before .before .before .before .before .before .before .before .loop .inv .fills .size)
@@ -76,8 +78,8 @@ returns-2 c =
     let e = c .before .before .before .before .before .before .before .before .before .before .before .before .before .line-end in
     let f = c .before .before .before .before .before .before .before .before .before .before .frame-of in
     let t = c .before .before .before .before .before .before .before .before .line in
-    walks-refused (l .inv) (e .result) (e .ensures) (c .before .before .before .before .before .before .before .before .before .before .before .before .if1 .left) (f .result) (f .ensures)
-    (t .result) (t .ensures) (not-true (t .result .taken) (c .before .before .before .before .if2 .taken)) (c .before .before .wrong-line2 .ensures)
+    walks-refused (line-reader _ _) (l .inv) (e .result) (e .ensures) (c .before .before .before .before .before .before .before .before .before .before .before .before .if1 .left) (f .result) (f .ensures)
+    (t .ensures .taken) (t .ensures .puts) (not-true (t .result .taken) (c .before .before .before .before .if2 .taken)) (c .before .before .wrong-line2 .ensures)
 
 add-place : tie.Need-add-place Inv-loop μ-loop
 add-place c = omega arith
@@ -98,14 +100,14 @@ loop-again c =
     let e = c .before .before .before .before .before .before .before .before .before .before .line-end in
     let f = c .before .before .before .before .before .before .before .frame-of in
     let t = c .before .before .before .before .before .line in
-    walks-more (l .inv) (e .result) (e .ensures) (c .before .before .before .before .before .before .before .before .before .if1 .left) (f .result) (f .ensures)
-    (t .result) (t .ensures) (not-false (t .result .taken) (c .before .if2 .left))
+    walks-more (line-reader _ _) (l .inv) (e .result) (e .ensures) (c .before .before .before .before .before .before .before .before .before .if1 .left) (f .result) (f .ensures)
+    (t .ensures .taken) (t .ensures .puts) (not-false (t .result .taken) (c .before .if2 .left)) _ (t .ensures .chain)
 
 same-length-3 : tie.Need-same-length-3 Inv-loop μ-loop
 same-length-3 c = c .before .loop .inv .fills .size
 
 returns-3 : tie.Need-returns-3 Inv-loop μ-loop
-returns-3 c = walks-over (c .before .loop .inv) (c .loop-test .left)
+returns-3 c = walks-over (line-reader _ _) (c .before .loop .inv) (c .loop-test .left)
 
 pub lines-spec : {M : Type 1} → statement M
 lines-spec =

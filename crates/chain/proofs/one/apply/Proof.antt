@@ -4,11 +4,11 @@ use mathlib.Core.Path.{ap, sym, _∙_}
 use borrow.Author.Tests.{lt-ltb, le-ltb, not-true, not-false}
 use Rattle.base.specs.Refusals.{done}
 use Rattle.base.proofs.Picks.{pick-yes, pick-no}
+use Rattle.base.proofs.Refusals.{by-done, by-refusal}
 use Rattle.chip.specs.declared.Chip.{Chip}
 use Rattle.chip.specs.Commands.{applied}
 use Rattle.chain.specs.declared.Chain.{Chain}
 use Rattle.chain.specs.Entries as E
-use Rattle.chain.proofs.Tested.{by-done, by-refusal}
 use borrow.Author.Needs.{needs}
 use Rattle.chain.proofs.one.apply.Statement.{statement}
 use Rattle.chain.proofs.one.apply.Tie as tie

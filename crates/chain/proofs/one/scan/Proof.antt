@@ -4,10 +4,10 @@ use mathlib.Core.Path.{ap, ap₂, sym, _∙_}
 use borrow.Author.Tests.{lt-ltb, le-ltb}
 use Rattle.base.specs.Refusals.{done}
 use Rattle.base.proofs.Picks.{pick-yes, pick-no}
+use Rattle.base.proofs.Refusals.{by-done, by-refusal}
 use Rattle.chip.specs.Scans.{Recording, ScanLeaves}
 use Rattle.chain.specs.declared.Chain.{Chain}
 use Rattle.chain.specs.Entries as E
-use Rattle.chain.proofs.Tested.{by-done, by-refusal}
 use borrow.Author.Needs.{needs}
 use Rattle.chain.proofs.one.scan.Statement.{statement}
 use Rattle.chain.proofs.one.scan.Tie as tie

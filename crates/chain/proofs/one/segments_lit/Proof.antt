@@ -6,8 +6,8 @@ use Prim.Native.Nat.{ℕ}
 use borrow.Author.Tests.{lt-ltb, le-ltb}
 use Rattle.base.specs.Refusals.{done}
 use Rattle.base.proofs.Picks.{pick-yes, pick-no}
+use Rattle.base.proofs.Refusals.{by-done, by-refusal}
 use Rattle.chip.specs.Segments.{litOf}
-use Rattle.chain.proofs.Tested.{by-done, by-refusal}
 use borrow.Author.Needs.{needs}
 use Rattle.chain.proofs.one.segments_lit.Statement.{statement}
 use Rattle.chain.proofs.one.segments_lit.Tie as tie

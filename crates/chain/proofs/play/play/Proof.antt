@@ -2,8 +2,8 @@
 -- Assumes nothing.
 use mathlib.Core.Path.{ap, sym, _∙_}
 use Rattle.base.specs.Refusals.{done}
+use Rattle.base.proofs.Refusals.{by-done, by-refusal}
 use Rattle.chain.specs.declared.Chain.{Chain}
-use Rattle.chain.proofs.Tested.{by-done, by-refusal}
 use borrow.Author.Needs.{needs}
 use Rattle.chain.proofs.play.play.Statement.{statement}
 use Rattle.chain.proofs.play.play.Tie as tie
