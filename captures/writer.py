@@ -16,9 +16,9 @@ def row(*words):
     return samples + [3, 7]
 
 
-def played(samples):
-    """Samples as lines of 32."""
-    return ["01" + "".join("%02X" % sample for sample in samples[at:at + 32]) for at in range(0, len(samples), 32)]
+def played(samples, kind=0x01):
+    """Samples as lines of 32, of the kind 01, or 41 for two wires."""
+    return ["%02X" % kind + "".join("%02X" % sample for sample in samples[at:at + 32]) for at in range(0, len(samples), 32)]
 
 
 def scan(chip, *keys):

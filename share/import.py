@@ -3,6 +3,8 @@
 
     import.py [--format vcd|csv|raw|sr] [--raw] [--din NAME] [--dclk NAME] [--load NAME] [--chips N]
               [--width BYTES] [--din-bit BIT] [--dclk-bit BIT] [--load-bit BIT] FILE
+    import.py [--format vcd|csv|raw|sr] [--raw] [--two-wires] [--scl NAME] [--sda NAME] [--key CODE] [--digits SIX]
+              [--width BYTES] [--scl-bit BIT] [--sda-bit BIT] FILE
 
 The text goes to standard output when the whole recording is read; a refused recording gives none. The readers stand in probe/, one
 for each format; they read in a stream. Exit status 0, or 2 for bad usage and for a recording that can't be read.
@@ -19,16 +21,21 @@ if sys.version_info < (3, 8):
 sys.path.insert(0, os.path.dirname(os.path.abspath(__file__)))
 sys.dont_write_bytecode = True
 
+from probe.ch450 import TwoWires
+from probe.chain import MOST_CHIPS, Chain
 from probe.refusal import BadUsage, Refused, Unreadable, shown
 from probe.source import BOM, named, opened
-from probe.text import DCLK, DIN, LOAD, MOST_CHIPS, WIRES, WORD, Text
 
 READERS = {"vcd": "vcd", "csv": "table", "raw": "raw", "sr": "sigrok"}     # modules of probe/
 PLACES = {"vcd": "line", "csv": "line", "raw": "byte offset", "sr": "byte offset"}
 ENDINGS = {".vcd": "vcd", ".csv": "csv", ".raw": "raw", ".bin": "raw", ".sr": "sr"}
-NAMES = {"din": DIN, "dclk": DCLK, "load": LOAD}
-BITS = {"din-bit": DIN, "dclk-bit": DCLK, "load-bit": LOAD}
-OPTIONS = ("format", "chips", "width", *NAMES, *BITS)
+# the options of each kind of panel
+OPTIONS = {
+    Chain: ("chips", "din", "dclk", "load", "din-bit", "dclk-bit", "load-bit"),
+    TwoWires: ("two-wires", "key", "digits", "scl", "sda", "scl-bit", "sda-bit"),
+}
+FLAGS = {"--raw": ("format", "raw"), "--two-wires": ("two-wires", "yes")}     # options without a value, and what they stand for
+VALUED = {"format", "width", *OPTIONS[Chain], *OPTIONS[TwoWires]} - {"two-wires"}
 WIDEST = 64     # bytes of a raw sample
 ZIP, GZIP = b"PK\3\4", b"\x1f\x8b\x08"
 
@@ -49,11 +56,11 @@ def arguments(words):
             files.append(word)
             continue
         name, equals, value = word[2:].partition("=")
-        if word == "--raw":
-            name, equals, value = "format", "=", "raw"
-        if not word.startswith("--") or name not in OPTIONS:
+        if word in FLAGS:
+            name, value = FLAGS[word]
+        elif not word.startswith("--") or name not in VALUED:
             raise BadUsage("no such option: %s" % shown(word))
-        if not equals and words:
+        elif not equals and words:
             value = words.pop(0)
         if not value:
             raise BadUsage("--%s needs a value" % name)
@@ -75,33 +82,57 @@ def number(given, name, least, most):
     return int(value)
 
 
+def bytes_of(given, name, count, most, say):
+    """The bytes that an option gives by their hexadecimal digits, or None."""
+    value = given.get(name)
+    if value is None:
+        return None
+    if not re.fullmatch("[0-9A-Fa-f]{%d}" % (2 * count), value) or max(bytes.fromhex(value)) > most:
+        raise BadUsage("--%s takes %s" % (name, say))
+    return bytes.fromhex(value)
+
+
+def kind_of(given):
+    """The kind of panel: the options tell it, and those of two kinds don't go together."""
+    of_chain, of_two = ([name for name in given if name in OPTIONS[kind]] for kind in (Chain, TwoWires))
+    if of_chain and of_two:
+        raise BadUsage("--%s is for the three wires of CH452 chips, and --%s for the two of a CH450" % (of_chain[0], of_two[0]))
+    return TwoWires if of_two else Chain
+
+
 class Wanted:
-    """The options, tested: the format or None, the chips or None, the wires' names, the bytes of a raw sample or None and its bits."""
+    """The options, tested: the format or None, the text to be made, the wires' names, the bytes of a raw sample or None and its bits."""
 
     def __init__(self, given):
         self.form = given.get("format")
         if self.form not in (None, *READERS):
             raise BadUsage("no such format: %s" % shown(self.form))
-        self.chips = number(given, "chips", 1, MOST_CHIPS)
-        self.names = {wire: os.fsencode(given.get(name, name.upper())) for name, wire in NAMES.items()}
-        if len(set(self.names.values())) != len(WIRES):
-            raise BadUsage("--din, --dclk and --load must name three wires")
-        self.named = bool(set(NAMES) & set(given))
+        kind = kind_of(given)
+        number_of = "two" if kind is TwoWires else "three"
+        chips = number(given, "chips", 1, MOST_CHIPS)
+        key = bytes_of(given, "key", 1, 0x7F, "two hexadecimal digits, 00 to 7F")
+        digits = bytes_of(given, "digits", 6, 0xFF, "twelve hexadecimal digits, DIG2 first")
+        self.text = TwoWires(key[0] if key else 0, digits) if kind is TwoWires else Chain(chips)
+        self.names = {wire: os.fsencode(given.get(name, name.upper())) for name, wire in kind.wires.items()}
+        if len(set(self.names.values())) != len(self.names):
+            raise BadUsage("%s must name %s wires" % (kind.options(), number_of))
+        self.named = bool(set(kind.wires) & set(given))
         self.width = number(given, "width", 1, WIDEST)
-        self.others = bool(set(BITS) & set(given))
+        self.others = any(name + "-bit" in given for name in kind.wires)
         self.bits = {}
-        for place, (name, wire) in enumerate(BITS.items()):
-            bit = number(given, name, 0, 8 * (self.width or 1) - 1)
+        for place, (name, wire) in enumerate(kind.wires.items()):
+            bit = number(given, name + "-bit", 0, 8 * (self.width or 1) - 1)
             self.bits[wire] = place if bit is None else bit
-        if len(set(self.bits.values())) != len(WIRES):
-            raise BadUsage("--din-bit, --dclk-bit and --load-bit must name three bits")
+        if len(set(self.bits.values())) != len(self.bits):
+            raise BadUsage("%s must name %s bits" % (kind.options("-bit"), number_of))
 
     def goes_with(self, form):
         """Refuses options that the format has no use for."""
+        options = self.text.options("-bit")
         if form == "raw" and self.named:
-            raise BadUsage("a raw recording has no names of wires; --din-bit, --dclk-bit and --load-bit say which bits they are")
+            raise BadUsage("a raw recording has no names of wires; %s say which bits they are" % options)
         if form != "raw" and (self.others or self.width):
-            raise BadUsage("--width, --din-bit, --dclk-bit and --load-bit go with raw")
+            raise BadUsage("--width, %s go with raw" % options)
 
 
 # ---- what the file is ----
@@ -160,10 +191,9 @@ def imported(file, wanted):
             form = seen(source.head)
         recognised(source.head, form, anything)
         wanted.goes_with(form)
-        text = Text(wanted.chips or 1)
         more = (wanted.width, wanted.bits, wanted.others) if form == "raw" else (wanted.names,)
-        importlib.import_module("probe." + READERS[form]).read(source, text, *more)
-        return text, remarks(text, wanted.chips)
+        importlib.import_module("probe." + READERS[form]).read(source, wanted.text, *more)
+        return wanted.text, wanted.text.remarks()
     except Refused as refused:
         refused.form = form
         raise
@@ -171,28 +201,6 @@ def imported(file, wanted):
         if form is not None:
             whole.end()
             source.progress.end()
-
-
-# ---- what is to be said of it ----
-
-
-def remarks(text, given):
-    """Lines for standard error. Rows for more chips than are assumed are refused where the user didn't say how many."""
-    lines = []
-    rows = text.rows_for()
-    if rows > text.chips:
-        why = "always %d clocks come between LOAD rises, as for %d chips" % (WORD * rows, rows)
-        if given is None:
-            most = "; a chain has %d at most" % MOST_CHIPS if rows > MOST_CHIPS else ": say --chips %d" % rows
-            raise Refused(why + most + ", or --chips 1 if it is one")
-        lines.append("%s, and not for %d" % (why, given))
-    if text.not_reset:
-        chips = [str(chip) for chip in text.not_reset]
-        many = len(chips) > 1
-        which = "chips %s and %s" % (", ".join(chips[:-1]), chips[-1]) if many else "chip %s" % chips[0]
-        lines.append("%s %s no reset word first: taken as reset, so what %s before the recording isn't on the screen"
-                     % (which, "get" if many else "gets", "they showed" if many else "it showed"))
-    return lines
 
 
 def say(line):

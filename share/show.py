@@ -1,9 +1,14 @@
 #!/usr/bin/env python3
 """Shows people what the proved programs wrote. This is presentation: nothing here is proved.
 
-    show.py replay REFUSED     each line of `replay`, with its meaning in words beside it (--explain)
-    show.py screen REFUSED     each line of `screen`, with the chip's digits drawn below it (--picture)
-    show.py tally REFUSED      what the lines of `tally` say, in two tables with decimal numbers (--explain)
+    show.py PROGRAM HOW REFUSED
+
+    replay explain         each line of `replay`, with its meaning in words beside it
+    screen picture         each line of `screen`, with the chip's digits drawn below it
+    tally explain          what the lines of `tally` say, in two tables with decimal numbers
+    ch450replay explain    each line of `ch450replay`, with its meaning in words beside it
+    ch450screen explain    each line of `ch450screen`, with the segments that are lit
+    ch450screen picture    each line of `ch450screen`, with the digits drawn below it
 
 The lines come on standard input. REFUSED is what to say of a refusal line.
 """
@@ -91,6 +96,51 @@ def explained(lines, refused):
         yield "%-8s    %s" % (line, text)
 
 
+# ---- --explain of ch450 ----
+
+INTENSITIES = ("duty 4/4", "duty 1/4", "duty 2/4", "duty 4/4, no current limit")
+
+
+def ch450_meaning(first, second):
+    """What the two bytes of an obeyed command say, by sheet 003; bits 4 to 2 of parameters are ignored."""
+    if first == 0x48:
+        intens = second >> 5 & 3
+        return "system parameters: SLEEP %d, INTENS %d (%s), %s" % (second >> 7, intens, INTENSITIES[intens], bits(second & 3, "KEYB", "DISP"))
+    if first == 0x4F:
+        return "read key (byte 2 on the wire: %02XH)" % second
+    return "load DIG%d with %02XH" % (first >> 1 & 7, second)
+
+
+def ch450_key(code):
+    """What a code that was read says: its low six bits are the key's address, bit 6 whether it is pressed. There is no DIG0 or DIG1."""
+    address = code & 0x3F
+    state = "pressed" if code & 0x40 else "let go"
+    if address % 8 < 2:
+        return "code %02XH read: %s, and no key is at %s" % (code, state, place_of(address))
+    return "code %02XH read: key %02XH (%s) %s" % (code, address, place_of(address), state)
+
+
+def ch450_lit(digits):
+    """The segments that are lit, by their letters, a dot for the point; digits that are dark are left out."""
+    letters = ["".join(name for bit, name in enumerate("ABCDEFG.") if byte >> bit & 1) for byte in digits]
+    return ", ".join("DIG%d %s" % (digit, lit) for digit, lit in enumerate(letters, 2) if lit) or "dark"
+
+
+def ch450_explained(lines, refused):
+    """The lines of `ch450replay` or `ch450screen` and their meanings."""
+    for line in lines:
+        frame = bytes.fromhex(line)
+        if frame[0] == 0x42:
+            text = ch450_meaning(frame[1], frame[2])
+        elif frame[0] == 0x43:
+            text = ch450_key(frame[1])
+        elif frame[0] == 0x44:
+            text = ch450_lit(frame[1:])
+        else:
+            text = refused
+        yield "%-8s    %s" % (line, text)
+
+
 # ---- --explain of tally ----
 
 
@@ -132,7 +182,7 @@ def counted(lines, refused):
         yield from [""] * bool(chips) + [refused]
 
 
-# ---- --picture of screen ----
+# ---- --picture ----
 
 # the segments of a digit as they stand: A above, F and B beside G, E and C beside D, and the point; segment A is bit 0
 ROWS = (
@@ -150,24 +200,38 @@ def drawn_row(row, segments):
 
 
 def drawn(lines, refused):
-    """The lines of `screen`, and below each the eight digits of its chip, DIG7 leftmost."""
+    """The lines of `screen` or `ch450screen`, and below each the digits, DIG7 leftmost: the eight of its chip, or the six of a CH450,
+    which has no DIG0 and DIG1."""
     for line in lines:
         frame = bytes.fromhex(line)
-        if frame[0] != 0x30:
+        if frame[0] == 0x30:
+            yield "%s    chip %d" % (line, frame[1])
+            digits = list(enumerate(frame[2:]))[::-1]
+        elif frame[0] == 0x44:
+            yield line
+            digits = list(enumerate(frame[1:], 2))[::-1]
+        else:
             yield "%s    %s" % (line, refused)
             continue
-        digits = list(enumerate(frame[2:]))[::-1]
-        yield "%s    chip %d" % (line, frame[1])
         for row in ROWS:
             yield (MARGIN + GAP.join(drawn_row(row, segments) for _, segments in digits)).rstrip()
         yield MARGIN + GAP.join("DIG%d" % digit for digit, _ in digits)
         yield ""
 
 
+SHOWN = {
+    ("replay", "explain"): explained,
+    ("screen", "picture"): drawn,
+    ("tally", "explain"): counted,
+    ("ch450replay", "explain"): ch450_explained,
+    ("ch450screen", "explain"): ch450_explained,
+    ("ch450screen", "picture"): drawn,
+}
+
+
 def main():
     signal.signal(signal.SIGPIPE, signal.SIG_DFL)
-    show = {"replay": explained, "screen": drawn, "tally": counted}[sys.argv[1]]
-    lines = list(show(sys.stdin.read().split(), sys.argv[2]))
+    lines = list(SHOWN[sys.argv[1], sys.argv[2]](sys.stdin.read().split(), sys.argv[3]))
     try:
         sys.stdout.write("".join(line + "\n" for line in lines))
         sys.stdout.close()

@@ -1,7 +1,7 @@
 """A second reading of probes' recordings, for tests/mutated_probes: slow, all in memory, and without a line of share/. What it can't
 read with certainty it gives up, by an exception.
 
-    text(path, options)      the capture text of a recording, as bytes; options as the command has them, a dictionary
+    text(path, options)      the text of a recording, as bytes; options as the command has them, a dictionary
 """
 import csv
 import gzip
@@ -10,7 +10,9 @@ import re
 import zipfile
 import zlib
 
-WIRES = ("din", "dclk", "load")
+THREE = ("din", "dclk", "load")
+TWO = ("scl", "sda")
+OF_TWO = ("key", "digits", *TWO)     # options that say that the wires are two
 
 
 class Unsure(Exception):
@@ -30,7 +32,7 @@ def raw(data, width, bits, only):
     samples = []
     for at in range(0, len(data), width):
         value = sum(byte << 8 * place for place, byte in enumerate(data[at:at + width]))
-        sure(not only or value < 8)
+        sure(not only or value < 1 << len(bits))
         samples.append(sum((value >> bit & 1) << place for place, bit in enumerate(bits)))
     if only and width == 1 and len(samples) > 15:
         sure(any(samples[0::2]) == any(samples[1::2]))
@@ -176,7 +178,7 @@ def dump(data, names):
 def levels_of(groups, wires):
     """The samples that groups of changes make."""
     samples = []
-    levels = [None, None, None]
+    levels = [None] * len(wires)
     for group in groups:
         before = list(levels)
         for identifier, value in group:
@@ -187,16 +189,18 @@ def levels_of(groups, wires):
                     sure(level in "01" or levels[place] is None)
                     levels[place] = int(level) if level in "01" else None
         if None in before:
-            sure(not any(before[place] == 0 and levels[place] == 1 for place in (1, 2)))
+            rises = [before[place] == 0 and levels[place] == 1 for place in range(len(wires))]
+            falls = [before[place] == 1 and levels[place] == 0 for place in range(len(wires))]
+            sure(not (rises[1] or rises[2] if len(wires) == 3 else rises[0] or rises[1] or falls[1]))
         if None not in levels:
-            samples.append(levels[0] + 2 * levels[1] + 4 * levels[2])
+            samples.append(sum(level << place for place, level in enumerate(levels)))
     sure(None not in levels)
     return samples
 
 
 def definitions(words, names):
     """For each wire its identifier and its bit from the right, and the size of every identifier."""
-    found = [set(), set(), set()]
+    found = [set() for _ in names]
     sizes = {}
     scopes = []
     at = 0
@@ -240,13 +244,14 @@ def definitions(words, names):
 def text(path, options):
     with open(path, "rb") as file:
         data = file.read()
+    wires = TWO if set(options) & set(OF_TWO) else THREE
     try:
         if data[:2] == b"\x1f\x8b":
             data = gzip.decompress(data)
             path = re.sub(r"\.gz$", "", path)
-        names = [options.get(wire, wire.upper()) for wire in WIRES]
+        names = [options.get(wire, wire.upper()) for wire in wires]
         if path.endswith(".raw"):
-            bits = [int(options.get(wire + "-bit", place)) for place, wire in enumerate(WIRES)]
+            bits = [int(options.get(wire + "-bit", place)) for place, wire in enumerate(wires)]
             samples = raw(data, int(options.get("width", 1)), bits, "din-bit" not in options)
         elif path.endswith(".sr"):
             samples = session(data, names)
@@ -254,12 +259,15 @@ def text(path, options):
             samples = {"vcd": dump, "csv": table}[path.rsplit(".", 1)[1]](data, names)
     except (Unsure, zipfile.BadZipFile, zlib.error, EOFError, OSError, LookupError, ValueError, RuntimeError):
         raise Unsure from None
+    # of three wires a sample counts where DCLK or LOAD has changed, of two where any has
     kept = []
-    clocks = 3
+    before = 2 ** len(wires) - 1
     for sample in samples:
-        if sample // 2 != clocks:
+        if sample != before and (wires == TWO or sample // 2 != before // 2):
             kept.append("%02X" % sample)
-        clocks = sample // 2
+        before = sample
     lines = ["0001%02X" % int(options.get("chips", 1))]
-    lines += ["01" + "".join(kept[at:at + 32]) for at in range(0, len(kept), 32)]
+    if wires == TWO:
+        lines = ["4001" + options.get("key", "00") + options.get("digits", "000000000000")]
+    lines += [("01" if wires == THREE else "41") + "".join(kept[at:at + 32]) for at in range(0, len(kept), 32)]
     return "".join(line + "\n" for line in lines).encode()

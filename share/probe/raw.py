@@ -1,6 +1,5 @@
 """Raw recordings: one sample after another, each of the same number of bytes, lowest byte first; each wire is a bit."""
 from .refusal import Refused
-from .text import WIRES
 
 
 def read(source, text, width, bits, others):
@@ -28,20 +27,19 @@ def take(block, text, width, bits, others, offset):
     """The samples of a block."""
     lanes = [block[lane::width] for lane in range(width)]
     if not others:
-        foreign(block, lanes, bits, offset)
+        foreign(block, lanes, bits, offset, text.options("-bit"))
     samples = 0
-    for wire in WIRES:
-        bit = bits[wire]
+    for wire, bit in bits.items():
         levels = lanes[bit // 8].translate(bytes(wire * (value >> bit % 8 & 1) for value in range(256)))
         samples |= int.from_bytes(levels, "little")
     text.take_all(samples.to_bytes(len(lanes[0]), "little"), lambda at: offset + at * width)
 
 
-def foreign(block, lanes, bits, offset):
-    """Refuses the first sample with a bit that is no wire's."""
+def foreign(block, lanes, bits, offset, options):
+    """Refuses the first sample with a bit that is no wire's; `options` are those that say which are."""
     places = []
     for lane, column in enumerate(lanes):
-        used = sum(1 << bits[wire] % 8 for wire in WIRES if bits[wire] // 8 == lane)
+        used = sum(1 << bit % 8 for bit in bits.values() if bit // 8 == lane)
         wrong = column.translate(None, bytes(value for value in range(256) if not value & ~used))
         if wrong:
             places.append(column.index(wrong[0]))
@@ -50,5 +48,5 @@ def foreign(block, lanes, bits, offset):
         at = min(places) * width
         sample = "%0*XH" % (2 * width, int.from_bytes(block[at:at + width], "little"))
         if width == 1:
-            raise Refused("%s is no sample; samples are 00H to 07H" % sample, offset + at)
-        raise Refused("%s has a bit that is no wire's; --din-bit, --dclk-bit and --load-bit say which are" % sample, offset + at)
+            raise Refused("%s is no sample; samples are 00H to %02XH" % (sample, sum(bits)), offset + at)
+        raise Refused("%s has a bit that is no wire's; %s say which are" % (sample, options), offset + at)

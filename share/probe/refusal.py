@@ -27,3 +27,8 @@ def shown(part, most=40):
 def listed(parts, most=200):
     """Names in a row, for a message."""
     return shown(", ".join(shown(part) for part in parts) or "none", most)
+
+
+def joined(parts):
+    """A few words in a row, the last after an `and`."""
+    return " and ".join(filter(None, (", ".join(parts[:-1]), parts[-1])))

@@ -7,7 +7,6 @@ import zlib
 from . import raw
 from .refusal import Refused, listed, shown
 from .source import BLOCK, Progress
-from .text import WIRES
 
 VERSIONS = (b"1", b"2")
 DAMAGED = "the sigrok session is damaged or cut off"
@@ -82,12 +81,12 @@ def places(device, names):
     if not re.fullmatch(r"[1-9]\d{0,2}", width):
         raise Refused("the sigrok session's metadata can't be read")
     bits = {}
-    for wire in WIRES:
-        found = channels.get(names[wire].decode("utf-8", "replace"), [])
+    for wire, name in names.items():
+        found = channels.get(name.decode("utf-8", "replace"), [])
         if len(found) != 1:
             number = "more than one channel" if found else "no channel"
-            raise Refused("%s is named %s; there are: %s" % (number, shown(names[wire]), listed(channels)))
+            raise Refused("%s is named %s; there are: %s" % (number, shown(name), listed(channels)))
         bits[wire] = found[0]
         if bits[wire] >= 8 * int(width):
-            raise Refused("channel %s is no bit of a sample of %s bytes" % (shown(names[wire]), width))
+            raise Refused("channel %s is no bit of a sample of %s bytes" % (shown(name), width))
     return int(width), bits

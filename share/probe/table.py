@@ -5,7 +5,6 @@ from itertools import islice
 from operator import le
 
 from .refusal import Refused, listed, shown
-from .text import WIRES
 
 SEPARATORS = (b",", b";", b"\t")
 LEVELS = {b"0", b"1"}
@@ -78,22 +77,23 @@ class Table:
             self.timed = bool(times) and 0 not in columns.values()
 
     def by_header(self, fields):
-        """For each wire the number of its column, where the header has all three names, each once; else None."""
-        if any(fields.count(self.names[wire]) != 1 for wire in WIRES):
+        """For each wire the number of its column, where the header has all their names, each once; else None."""
+        if any(fields.count(name) != 1 for name in self.names.values()):
             return None
-        return {wire: fields.index(self.names[wire]) for wire in WIRES}
+        return {wire: fields.index(name) for wire, name in self.names.items()}
 
     def by_place(self, fields):
         """For each wire the number of its column, by numbers from 1 in place of names, or by libsigrok's remark that names the
         channels, where the header has their unit, `logic`, or there is no header; else None."""
         columns = []
-        if all(re.fullmatch(rb"[1-9]\d{0,5}", self.names[wire]) and int(self.names[wire]) <= len(fields) for wire in WIRES):
-            columns.append({wire: int(self.names[wire]) - 1 for wire in WIRES})
+        if all(re.fullmatch(rb"[1-9]\d{0,5}", name) and int(name) <= len(fields) for name in self.names.values()):
+            columns.append({wire: int(name) - 1 for wire, name in self.names.items()})
         logic = [place for place, field in enumerate(fields) if field == b"logic"]
         if not logic and not set(fields) - LEVELS:
             logic = list(range(len(fields)))
-        if self.channels and len(logic) == len(self.channels) and all(self.channels.count(self.names[wire]) == 1 for wire in WIRES):
-            columns.append({wire: logic[self.channels.index(self.names[wire])] for wire in WIRES})
+        channels = self.channels
+        if channels and len(logic) == len(channels) and all(channels.count(name) == 1 for name in self.names.values()):
+            columns.append({wire: logic[channels.index(name)] for wire, name in self.names.items()})
         if len(columns) == 2 and columns[0] != columns[1]:
             raise Refused("the wires' names are numbers of columns and also names of other channels; the channels are: %s"
                           % listed(self.channels))
@@ -101,7 +101,7 @@ class Table:
 
     def missing(self, fields):
         """Refuses, and says which column isn't there, or is there twice."""
-        names = [self.names[wire] for wire in WIRES]
+        names = list(self.names.values())
         if all(re.fullmatch(rb"\d{1,6}", name) for name in names):
             names = [name for name in names if not 1 <= int(name) <= len(fields)]
             why = "there is no column %s; the columns are: %s"
@@ -112,7 +112,7 @@ class Table:
             names = [name for name in names if name not in fields]
             why = "no column is named %s; the header has: %s"
             if b"logic" in fields:
-                why += "; columns may be named by their numbers from 1, as in --din 1"
+                why += "; columns may be named by their numbers from 1, as in --%s 1" % next(iter(self.text.wires))
         raise Refused(why % (shown(names[0]), listed(fields)), self.line)
 
     # ---- the rows ----

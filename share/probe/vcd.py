@@ -3,7 +3,6 @@ import re
 from operator import length_hint
 
 from .refusal import Refused, listed, shown
-from .text import DCLK, LOAD, WIRES
 
 # the blocks that hold changes; of other blocks nothing is used
 DUMPS = (b"$dumpvars", b"$dumpall", b"$dumpon", b"$dumpoff", b"$end")
@@ -11,7 +10,6 @@ VALUES = b"01xXzZuUwWlLhH-"             # of a scalar
 VECTORS = b"bBrRsS"                     # a change of several bits, of a real or of a string; its identifier is a word of its own
 WHITE = (b" ", b"\n", b"\t", b"\r", b"\v", b"\f")
 HASH = ord("#")
-ALL = sum(WIRES)
 MOST_KEPT = 100000                      # meanings of changes that are kept, so that a file of any size takes the same memory
 
 
@@ -93,7 +91,7 @@ class Definitions:
         self.names = names
         self.sizes = {}
         self.seen = []
-        found = {wire: {} for wire in WIRES}
+        found = {wire: {} for wire in names}
         scopes = []
         for word in iter(words.next, None):
             mark = words.mark()
@@ -114,7 +112,7 @@ class Definitions:
         else:
             raise Refused("there is no $enddefinitions", words.line())
         self.wires = {}         # identifier to (bit from the right, wire)
-        for wire in WIRES:
+        for wire in names:
             if not found[wire]:
                 raise Refused("no wire is named %s; there are: %s" % (shown(names[wire]), listed(self.seen)), line_of(mark))
             if len(found[wire]) > 1:
@@ -137,13 +135,13 @@ class Definitions:
         high = size - 1 if high is None else int(high)
         low = (high if match else 0) if low is None else int(low)
         path = b"." + b".".join(scopes + [name])
-        for wire in WIRES:
-            wanted = re.fullmatch(rb"(.*?) ?\[(\d{1,6})\]", self.names[wire])
+        for wire, called in self.names.items():
+            wanted = re.fullmatch(rb"(.*?) ?\[(\d{1,6})\]", called)
             if wanted and path.endswith(b"." + wanted[1]):
                 bit = int(wanted[2]) - low if high >= low else low - int(wanted[2])
                 if 0 <= bit < size and size == abs(high - low) + 1:
                     found[wire][identifier, bit] = True
-            elif path.endswith(b"." + self.names[wire]):
+            elif path.endswith(b"." + called):
                 if size > 1:
                     example = shown(b"%s[%d]" % (name, low))
                     why = "%s has %d bits and isn't one wire; name a bit of it, as in %s" % (shown(name), size, example)
@@ -161,6 +159,7 @@ class Changes:
     def __init__(self, words, definitions, text):
         self.words, self.definitions, self.text = words, definitions, text
         self.names = definitions.names
+        self.all = sum(self.names)
         self.level = self.known = 0             # the levels now, and which wires have one
         self.level_before = self.known_before = 0   # and as they were when the last time ended
         self.touched = False
@@ -200,10 +199,13 @@ class Changes:
             words = self.words.words if self.words.words is not words else self.words.more()
         if self.touched:
             self.sample(0)
-        missing = [self.names[wire] for wire in WIRES if not self.known & wire]
+        missing = self.without_level(self.known)
         if missing:
-            why = "the recording ends, and %s has had no level" % " and ".join(shown(name) for name in missing)
-            raise Refused(why, self.words.line())
+            raise Refused("the recording ends, and %s has had no level" % missing, self.words.line())
+
+    def without_level(self, known):
+        """The wires that have had no level, for a message."""
+        return " and ".join(shown(name) for wire, name in self.names.items() if not known & wire)
 
     def later(self, digits, time):
         """Whether a time is later than the one before it, or is the first; refused where it is earlier."""
@@ -287,16 +289,17 @@ class Changes:
 
     def sample(self, back):
         """A time has ended, so many words ago. A clock's rise before all wires have a level can't be left out without a trace: it is
-        refused."""
+        refused; so is a wire's fall, where that may be a start."""
         self.touched = False
         if self.level == self.level_before and self.known == self.known_before:
             return
-        if self.known_before != ALL:
-            for wire in (DCLK, LOAD):
-                if self.known_before & ~self.level_before & self.level & wire:
-                    missing = " and ".join(shown(self.names[other]) for other in WIRES if not self.known_before & other)
-                    raise Refused("%s rises before %s has had a level" % (shown(self.names[wire]), missing), self.words.line(back))
-        if self.known == ALL:
+        if self.known_before != self.all:
+            telling = self.text.rising & self.level | self.text.moving
+            for wire in self.names:
+                if self.known_before & (self.level_before ^ self.level) & telling & wire:
+                    say = shown(self.names[wire]), "rises" if self.level & wire else "falls", self.without_level(self.known_before)
+                    raise Refused("%s %s before %s has had a level" % say, self.words.line(back))
+        if self.known == self.all:
             self.text.take(self.level, lambda: self.words.line(back))
         self.level_before, self.known_before = self.level, self.known
 

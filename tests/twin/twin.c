@@ -10,3 +10,5 @@
 #include "writer.c"
 #include "text.c"
 #include "counts.c"
+#include "ch450.c"
+#include "wires.c"

@@ -1,6 +1,6 @@
-/* The plain twin: the panel in plain C, written from document 01 and not from the proved code, to be compared with it in what it does
- * and in its speed. Here is what a program over it may use. The twin itself is one source, twin.c, in parts that are each headed by the
- * name of a chapter of the document.
+/* The plain twin: the panel in plain C, written from document 01 and the change requests and not from the proved code, to be compared
+ * with it in what it does and in its speed. Here is what a program over it may use. The twin itself is one source, twin.c, in parts that
+ * are each headed by the name of a chapter of the document, or of a request.
  *
  * The functions named twin_ take and answer what those of include/zhaqsumir.h do: an answer is an array of numbers, first the number
  * of a refusal or 0, then the place that it names or 0. */
@@ -74,5 +74,45 @@ void twin_tally(const unsigned char *text, unsigned long length, unsigned long c
 #define TALLY_ROOM (69 * MOST + 21 * CODES + 13)
 unsigned long twin_tally_lines(const unsigned long chips[4 * MOST], const unsigned long codes[CODES], unsigned long largest,
                                const unsigned long answer[2], unsigned char out[TALLY_ROOM]);
+
+/* ---- one CH450 on two wires ---- */
+
+#define SIX 6                                           /* digits, DIG2 to DIG7 */
+#define MOST_COMMANDS 64
+#define COMMAND_SAMPLES 40ul
+
+struct ch450 {
+    /* the lines: the previous sample, whether a transfer runs, its rises (20 is any more than 19), the bytes taken so far */
+    unsigned char levels, running, rises, byte1, byte2;
+    /* the settings, and the display */
+    unsigned char sleep, intens, keyb, disp, digits[SIX];
+};
+enum obeyed { NO_COMMAND, COMMAND, READ_COMMAND };      /* at a sample */
+
+/* Awake, with parameters 0 and idle lines. */
+void ch450_start(struct ch450 *c, const unsigned char digits[SIX]);
+
+/* DIG2 first. */
+void ch450_lit(const struct ch450 *c, unsigned char segments[SIX]);
+
+/* Plays a block; the third number is how many reads were answered with the key code. The record is one of this twin's runs. */
+void twin_ch450_play(struct ch450 *c, unsigned long key, const unsigned char *samples, unsigned long count, unsigned long answer[3]);
+
+/* A command is 0, SLEEP, INTENS, KEYB, DISP, or 1, DIG (2 to 7), data, or 2 for a read; its word is byte 1 * 256 + byte 2, which is 0 for
+ * a read. The writer takes words of parameters and digits. */
+void twin_ch450_encode(const unsigned long command[5], unsigned long answer[3]);
+void twin_ch450_write(const unsigned short *words, unsigned long count, unsigned char *out, unsigned long room,
+                      unsigned long answer[3]);
+
+/* The text of two wires. A command takes 40 samples, so 80 bytes of text; at the end comes a refusal. */
+#define WIRES_ROOM(line) (LONGEST_TEXT / (2 * COMMAND_SAMPLES) * (line) + 13)
+enum { READ_LINES = 12, PANEL_LINE = 15 };              /* bytes of a line 42 with its 43, of a line 44 */
+
+void twin_ch450_replay(const unsigned char *text, unsigned long length, unsigned char out[WIRES_ROOM(READ_LINES)],
+                       unsigned long answer[3]);
+
+/* The same for the segments lit, in place of commands and answers. */
+void twin_ch450_screen(const unsigned char *text, unsigned long length, unsigned char out[WIRES_ROOM(PANEL_LINE)],
+                       unsigned long answer[3]);
 
 #endif

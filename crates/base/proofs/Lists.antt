@@ -1,12 +1,13 @@
 -- Laws on lists that several crates cite.
 -- Assumes nothing.
 use mathlib.Core.Path.{_≡_, refl, ap, sym, _∙_}
-use mathlib.Core.List.{List, [], _∷_, map}
+use mathlib.Core.List.{List, [], _∷_, _++_, map}
 use Prim.Native.Nat.{ℕ, zero, suc, _+_, _<_}
 use native.Mathlib.Nat.{not-suc-le-zero, le-of-suc-le-suc}
 use native.Mathlib.Numerals.{add-one}
 use lib.ListN.{length, getD, drop, length-map}
 use lib.Seq.{drop-cons}
+use Rattle.base.specs.Below.{AllBelow}
 
 -- a list is as long as its image: what is known of an array of structs is known of their values
 pub length-mapped {ℓ κ} : {A : Type ℓ} {B : Type κ} (f : A → B) (xs : List A) (n : ℕ) → length (map f xs) ≡ n → length xs ≡ n
@@ -21,3 +22,8 @@ getD-any (x ∷ xs) (suc k) d e h = getD-any xs k d e (le-of-suc-le-suc h)
 -- the rest begins with the element at its place
 pub rest-is {ℓ} : {A : Type ℓ} (xs : List A) (i : ℕ) (d : A) → i < length xs → drop i xs ≡ getD xs i d ∷ drop (i + 1) xs
 rest-is xs i d h = drop-cons xs i d h ∙ ap (λ n. getD xs i d ∷ drop n xs) (sym (add-one i))
+
+-- two lists of numbers below a bound, one after the other
+pub below-append : (m : ℕ) (xs ys : List ℕ) → AllBelow m xs → AllBelow m ys → AllBelow m (xs ++ ys)
+below-append m [] ys a b = b
+below-append m (x ∷ xs) ys a b = (a .0, below-append m xs ys (a .1) b)

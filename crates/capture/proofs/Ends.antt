@@ -1,4 +1,5 @@
 -- The output ends as the answer says: where a text is refused, its last line is that refusal.
+--     piece-more      a piece before what ends so
 --     output-ends     of a whole text, by either report
 -- Assumes nothing.
 use mathlib.Core.Path.{refl, ap, sym, _∙_}
@@ -20,8 +21,7 @@ use Rattle.capture.specs.Reports.{atScan, refusalLine}
 use Rattle.capture.specs.Replay.{risesIn, taken, andThen, linesOut, afterFirst, allOut, outputOf, lineEnd, linesEnd, firstEnd, allEnd, endOf}
 use Rattle.capture.specs.Law.{endLine, EndsWith}
 
--- a piece before what ends so
-piece-more : (piece : List ℕ) {rest : List ℕ} (end : Told (Unit {0})) → EndsWith rest end → EndsWith (piece ++ rest) end
+pub piece-more : (piece : List ℕ) {rest : List ℕ} (end : Told (Unit {0})) → EndsWith rest end → EndsWith (piece ++ rest) end
 piece-more piece end y = (piece ++ y .0, ap (λ xs. piece ++ xs) (y .1) ∙ sym (append-assoc piece (y .0) (endLine end)))
 
 module _ (what : Report) where

@@ -1,5 +1,6 @@
 -- What a caller of `form_of` knows by its answer, of the bytes given and of an array that holds them at its front.
 --     nextOf, front-so                the front of a list, by its places
+--     front-rest                      the front without its first
 --     samples-read, samples-long      samples: the form, and how many bytes there are
 --     scan-read, scan-bounds          a scan: the form, how many bytes there are, and the chip is below N
 --     other-read                      of no form
@@ -86,7 +87,7 @@ module _ (n : ℕ) (bytes : List ℕ) (r : Reading) (reads : readAs r bytes ≡ 
 
 -- ---- an array that holds them at its front
 
-front-rest : (fb : List ℕ) (count : ℕ) → 1 ≤ count → drop 1 (take count fb) ≡ take (count - 1) (drop 1 fb)
+pub front-rest : (fb : List ℕ) (count : ℕ) → 1 ≤ count → drop 1 (take count fb) ≡ take (count - 1) (drop 1 fb)
 front-rest fb zero h = absurd (omega arith)
 front-rest [] (suc count) h = sym (take-nil (suc count - 1))
 front-rest (x ∷ fb) (suc count) h =

@@ -14,6 +14,7 @@ use lib.ListN.{length, length-append}
 use Rattle.base.specs.Below.{AllBelow}
 use Rattle.base.proofs.Cuts.{cut-lt}
 use Rattle.base.proofs.Tests.{eq-below}
+use Rattle.base.proofs.Lists.{below-append}
 use Rattle.chain.proofs.Shift.{pushes, long, value, pushes-length, pushes-below, shift-law, long-lt, long-inj}
 use Rattle.writer.specs.Rows.{wordBits, rowBits}
 
@@ -24,10 +25,6 @@ value-append [] ys = omega arith
 value-append (x ∷ xs) ys =
     let more = ap (λ y. value ys * y) (pow-suc 2 (length xs)) ∙ sym (mul-assoc (value ys) (2 ^ length xs) 2) in
     omega (arith, more, value-append xs ys)
-
-below-append : (m : ℕ) (xs ys : List ℕ) → AllBelow m xs → AllBelow m ys → AllBelow m (xs ++ ys)
-below-append m [] ys a b = b
-below-append m (x ∷ xs) ys a b = (a .0, below-append m xs ys (a .1) b)
 
 -- a word's bits are the word
 word-value : (w : ℕ) → w < 4096 → value (wordBits w) ≡ w

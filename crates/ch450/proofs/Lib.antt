@@ -1,0 +1,15 @@
+pub mod Digits
+pub mod RoundTrips
+pub mod Rest
+pub mod Stretches
+pub mod Silent
+pub mod Clocking
+pub mod OneCommand
+pub mod Demanded
+pub mod Changes
+pub mod Filling
+pub mod Tests
+pub mod Repeats
+pub mod Valid
+pub mod Reached
+pub mod Unique

@@ -1,0 +1,10 @@
+pub mod Edges
+pub mod Panel
+pub mod Commands
+pub mod Samples
+pub mod Stretch
+pub mod Entries
+pub mod Written
+pub mod Demand
+pub mod Answers
+pub mod Still

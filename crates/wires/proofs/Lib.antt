@@ -1,0 +1,9 @@
+pub mod Walked
+pub mod Forms
+pub mod Reported
+pub mod Samples
+pub mod Room
+pub mod Firsts
+pub mod Ends
+pub mod Repeats
+pub mod Unique

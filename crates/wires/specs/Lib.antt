@@ -1,0 +1,4 @@
+pub mod Frames
+pub mod Reports
+pub mod Replay
+pub mod Parts
