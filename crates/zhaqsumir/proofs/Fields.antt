@@ -19,11 +19,11 @@ use Rattle.word.specs.declared.Command.{Command}
 use Rattle.word.specs.Words.{encodedOf, wordOf, legal}
 use Rattle.zhaqsumir.specs.Commands.{fits, kinds, commandFrom}
 
-pub fits-in : {most n : ℕ} {t made : Told Command} → n ≤ most → t ≡ made → t ≡ fits most n made
-fits-in {most} {n} h e = e ∙ sym (pick-yes _ _ (le-leb n most h))
+pub fits-in : {A : Type 0} {most n : ℕ} {t made : Told A} → n ≤ most → t ≡ made → t ≡ fits most n made
+fits-in {most = most} {n = n} h e = e ∙ sym (pick-yes _ _ (le-leb n most h))
 
-pub fits-out : {most n : ℕ} (made : Told Command) → most < n → refused 9 0 ≡ fits most n made
-fits-out {most} {n} made h = sym (pick-no _ _ (lt-leb n most h))
+pub fits-out : {A : Type 0} {most n : ℕ} (made : Told A) → most < n → refused 9 0 ≡ fits most n made
+fits-out {most = most} {n = n} made h = sym (pick-no _ _ (lt-leb n most h))
 
 pub of-field : {t : Told Command} {byte most : ℕ} (command : ℕ → Command) (a : ℕ) → most ≤ 255 → byte ≡ a % 256 → t ≡ fits most a (done (command byte))
     → t ≡ fits most a (done (command a))

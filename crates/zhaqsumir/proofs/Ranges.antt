@@ -30,14 +30,16 @@ pub data Tells : Told ℕ → Bool → Type 0 where
 -- ---- one field more
 
 -- a field in its range leaves it to the rest; one above it is refused
-pub tells-field : (most n : ℕ) (made : Told Command) (rest : Bool) → (n ≤ most → Tells (encodedBy made) rest)
-    → Tells (encodedBy (fits most n made)) (leb n most && rest)
-tells-field most n made rest low =
+pub tells-field : {A : Type 0} (by : Told A → Told ℕ) → by (refused 9 0) ≡ refused 9 0 → (most n : ℕ) (made : Told A) (rest : Bool)
+    → (n ≤ most → Tells (by made) rest)
+    → Tells (by (fits most n made)) (leb n most && rest)
+tells-field by nine-stays most n made rest low =
     by-order n most
     (λ l.
-    subst (λ b. Tells (encodedBy (fits most n made)) (b && rest)) (sym (le-leb n most l)) (subst (λ t. Tells (encodedBy t) rest) (fits-in {most = most} {n = n} l refl) (low l)))
+    subst (λ b. Tells (by (fits most n made)) (b && rest)) (sym (le-leb n most l)) (subst (λ t. Tells (by t) rest) (fits-in {most = most} {n = n} l refl) (low l)))
     (λ g.
-    subst (λ b. Tells (encodedBy (fits most n made)) (b && rest)) (sym (lt-leb n most g)) (subst (λ t. Tells (encodedBy t) false) (fits-out {most = most} {n = n} made g) nine))
+    subst (λ b. Tells (by (fits most n made)) (b && rest)) (sym (lt-leb n most g))
+    (subst (λ t. Tells (by t) false) (fits-out {most = most} {n = n} made g) (subst (λ t. Tells t false) (sym nine-stays) nine)))
 
 -- ---- the kinds
 
@@ -46,17 +48,17 @@ tells-word c e = subst (λ (t : Told ℕ). Tells t true) (sym (legal-word c e)) 
 
 -- one field
 one-field : (most n : ℕ) (c : Command) → legal c ≡ leb n most → Tells (encodedBy (fits most n (done c))) (leb n most && true)
-one-field most n c e = tells-field most n (done c) true (λ l. tells-word c (e ∙ le-leb n most l))
+one-field most n c e = tells-field encodedBy refl most n (done c) true (λ l. tells-word c (e ∙ le-leb n most l))
 
 -- a bit, and the rest
 one-bit : (n : ℕ) (made : Told Command) (rest : Bool) → Tells (encodedBy made) rest → Tells (encodedBy (fits 1 n made)) (leb n 1 && rest)
-one-bit n made rest low = tells-field 1 n made rest (λ l. low)
+one-bit n made rest low = tells-field encodedBy refl 1 n made rest (λ l. low)
 
 -- a digit and a byte
 digit-byte : (a b : ℕ) → Tells (encodedBy (digitFrom a b)) (leb a 7 && (leb b 255 && true))
 digit-byte a b =
-    tells-field 7 a (fits 255 b (done (LoadDigit a b))) (leb b 255 && true)
-    (λ l. tells-field 255 b (done (LoadDigit a b)) true (λ m. tells-word (LoadDigit a b) (λ i. le-leb a 7 l i && le-leb b 255 m i)))
+    tells-field encodedBy refl 7 a (fits 255 b (done (LoadDigit a b))) (leb b 255 && true)
+    (λ l. tells-field encodedBy refl 255 b (done (LoadDigit a b)) true (λ m. tells-word (LoadDigit a b) (λ i. le-leb a 7 l i && le-leb b 255 m i)))
 
 module _ (a b c d e : ℕ) where
   abbrev fields : List ℕ

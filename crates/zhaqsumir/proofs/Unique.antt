@@ -10,6 +10,10 @@ use Rattle.zhaqsumir.proofs.zhaqsumir_write
 use Rattle.zhaqsumir.proofs.zhaqsumir_find
 use Rattle.zhaqsumir.proofs.zhaqsumir_replay
 use Rattle.zhaqsumir.proofs.zhaqsumir_tally
+use Rattle.zhaqsumir.proofs.zhaqsumir_ch450_encode
+use Rattle.zhaqsumir.proofs.zhaqsumir_ch450_write
+use Rattle.zhaqsumir.proofs.zhaqsumir_ch450_play
+use Rattle.zhaqsumir.proofs.zhaqsumir_ch450_lit
 
 pub zhaqsumir-decode-unique : AllowsOne zhaqsumir_decode.Kinds.ps zhaqsumir_decode.Kinds.r zhaqsumir_decode.Reads.Learnt
 zhaqsumir-decode-unique κs a x y last last′ p q = (refl, λ i. (tt, (same-answer p q i, tt)))
@@ -39,3 +43,17 @@ zhaqsumir-tally-unique κs a x y last last′ p q = (
     ),
   ),
 )
+
+pub zhaqsumir-ch450-encode-unique : AllowsOne zhaqsumir_ch450_encode.Kinds.ps zhaqsumir_ch450_encode.Kinds.r zhaqsumir_ch450_encode.Reads.Learnt
+zhaqsumir-ch450-encode-unique κs a x y last last′ p q = (refl, λ i. (tt, (same-answer p q i, tt)))
+
+pub zhaqsumir-ch450-write-unique : AllowsOne zhaqsumir_ch450_write.Kinds.ps zhaqsumir_ch450_write.Kinds.r zhaqsumir_ch450_write.Reads.Learnt
+zhaqsumir-ch450-write-unique κs a x y last last′ p q =
+    (refl, λ i. (tt, (same-answer (p .bytes) (q .bytes) i, (same-answer (p .numbers) (q .numbers) i, tt))))
+
+pub zhaqsumir-ch450-play-unique : AllowsOne zhaqsumir_ch450_play.Kinds.ps zhaqsumir_ch450_play.Kinds.r zhaqsumir_ch450_play.Reads.Learnt
+zhaqsumir-ch450-play-unique κs a x y last last′ p q =
+    (refl, λ i. (same-answer (p .panel) (q .panel) i, (tt, (tt, (same-answer (p .numbers) (q .numbers) i, tt)))))
+
+pub zhaqsumir-ch450-lit-unique : AllowsOne zhaqsumir_ch450_lit.Kinds.ps zhaqsumir_ch450_lit.Kinds.r zhaqsumir_ch450_lit.Reads.Learnt
+zhaqsumir-ch450-lit-unique κs a x y last last′ p q = (refl, λ i. (tt, (same-answer p q i, tt)))

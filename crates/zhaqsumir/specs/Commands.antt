@@ -37,7 +37,7 @@ numbersOf ReadKey = six 14 0 0 0 0 0
 numbersOf (LoadDigit dig byte) = six 15 dig byte 0 0 0
 
 -- what is made of a number that is at most so large; refusal 9 for another
-abbrev pub fits : ℕ → ℕ → Told Command → Told Command
+abbrev pub fits : {A : Type 0} → ℕ → ℕ → Told A → Told A
 fits most n made = pick (leb n most) made (refused 9 0)
 
 -- a kind with one field, in the range that `word` has for it

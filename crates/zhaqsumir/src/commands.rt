@@ -16,7 +16,7 @@ pub(crate) enum Given {
 }
 
 // The number of a bit: 1 or 0.
-fn bit(b: bool) -> u64
+pub(crate) fn bit(b: bool) -> u64
     ensures { λ r. ⌜ r ≡ bitValue b ⌝ }
 {
     base::bit_value(b) as u64

@@ -1,9 +1,10 @@
-// The till's own library: the proved functions for C to link, six entries. Each takes numbers and slices, and answers by numbers
+// The till's own library: the proved functions for C to link, ten entries. Each takes numbers and slices, and answers by numbers
 // in a lent array: a refusal's number and place, 0 and 0 where there is none, then the answer, zeros where it is refused. A replay
-// counts the bytes that it wrote either way; a tally is lent as numbers, and goes on.
+// counts the bytes that it wrote either way; a tally and the panel of a CH450 are lent as numbers, and go on.
 // include/zhaqsumir.h is their header.
 mod commands;
 mod tallied;
+mod two_wires;
 
 use base::Verdict;
 use capture::Replayed;
@@ -21,9 +22,10 @@ ghost use Rattle.word.specs.Answers.{decodedTells, encodedTells};
 ghost use Rattle.writer.specs.Written.{writtenTells};
 ghost use Rattle.zhaqsumir.specs.Commands.{givenTells};
 ghost use Rattle.zhaqsumir.specs.Numbers as N;
+ghost use Rattle.zhaqsumir.specs.TwoWires as T;
 
 // The number of a verdict's refusal; 0 where it is none.
-fn verdict_number(v: Verdict) -> u64
+pub(crate) fn verdict_number(v: Verdict) -> u64
     ensures { λ r. ⌜ r ≡ N.numberIn (verdictTells v) ⌝ }
 {
     match v {
@@ -33,7 +35,7 @@ fn verdict_number(v: Verdict) -> u64
 }
 
 // The place of a verdict's refusal; 0 where it is none.
-fn verdict_place(v: Verdict) -> u64
+pub(crate) fn verdict_place(v: Verdict) -> u64
     ensures { λ r. ⌜ r ≡ N.placeIn (verdictTells v) ⌝ }
 {
     match v {
@@ -205,4 +207,51 @@ pub extern "C" fn zhaqsumir_tally(
     *codes = times;
     *largest = after.largest as u64;
     *answer = [verdict_number(verdict), verdict_place(verdict)];
+}
+
+// The word of a CH450 command, given as kind and four fields: number, place, word.
+#[no_mangle]
+pub extern "C" fn zhaqsumir_ch450_encode(command: &[u64; 5], answer: &mut [u64; 3])
+    ensures { λ _. ⌜ now (answer .exit) ≡ T.ch450Word (now (command .entry)) ⌝ }
+{
+    *answer = two_wires::word_of(two_wires::command_from(
+        command[0],
+        command[1],
+        command[2],
+        command[3],
+        command[4],
+    ));
+}
+
+// Writes CH450 commands, given as words: number, place, how many samples.
+#[no_mangle]
+pub extern "C" fn zhaqsumir_ch450_write(words: &[u16], out: &mut [u8], answer: &mut [u64; 3])
+    ensures { λ _. ⌜ T.Ch450Writes (now (words .entry)) (now (out .entry)) (now (answer .exit)) (now (out .exit)) ⌝ }
+{
+    *answer = two_wires::written(ch450::writer::write(words, out));
+}
+
+// Plays samples into the CH450 panel that is lent as numbers: number, place, how many times the key was read.
+#[no_mangle]
+pub extern "C" fn zhaqsumir_ch450_play(
+    panel: &mut [u64; 14],
+    key: u8,
+    samples: &[u8],
+    answer: &mut [u64; 3],
+)
+    ensures { λ _. ⌜ T.Ch450Plays (now (panel .entry)) key (now (samples .entry)) (now (answer .exit)) (now (panel .exit)) ⌝ }
+{
+    let after = two_wires::play(panel, key, samples);
+    let numbers = after.panel;
+    let told = after.answer;
+    *panel = numbers;
+    *answer = told;
+}
+
+// The segments that a CH450 panel lights: number, place, six bytes.
+#[no_mangle]
+pub extern "C" fn zhaqsumir_ch450_lit(panel: &[u64; 14], answer: &mut [u64; 8])
+    ensures { λ _. ⌜ now (answer .exit) ≡ T.ch450Lit (now (panel .entry)) ⌝ }
+{
+    *answer = two_wires::lit(panel);
 }

@@ -1,0 +1,39 @@
+-- `zhaqsumir::two_wires::after_block` meets its contract: each arm of the match is a clause of the definition.
+-- Assumes nothing.
+use mathlib.Core.Path.{ap, sym, _∙_}
+use mathlib.Core.List.{[], _∷_}
+use Rattle.ch450.specs.declared.play.PlayAnswer.{PlayAnswer}
+use Rattle.ch450.specs.Entries.{playTells}
+use Rattle.zhaqsumir.specs.Numbers.{alone}
+use Rattle.zhaqsumir.specs.TwoWires.{numbersAfter}
+use borrow.Author.Needs.{needs}
+use Rattle.zhaqsumir.proofs.two_wires.after_block.Statement.{statement}
+use Rattle.zhaqsumir.proofs.two_wires.after_block.Tie as tie
+
+returns : tie.Need-returns
+returns c =
+    let a = c .before .before .before .before .before .args in
+    let is = c .before .before .answer .given .1 in (
+      c .numbers-of .ensures ∙ sym (ap (λ (x : PlayAnswer). numbersAfter (playTells x) (a .played .panel) (a .numbers .now)) is),
+      sym (ap (λ (x : PlayAnswer). alone (playTells x)) is),
+    )
+
+returns-2 : tie.Need-returns-2
+returns-2 c =
+    let a = c .before .before .before .before .before .before .before .args in
+    let is = c .before .before .before .before .answer2 .given .1 in (
+      sym (ap (λ (x : PlayAnswer). numbersAfter (playTells x) (a .played .panel) (a .numbers .now)) is),
+      (λ i. c .before .number .ensures i ∷ c .place .ensures i ∷ 0 ∷ []) ∙ sym (ap (λ (x : PlayAnswer). alone (playTells x)) is),
+    )
+
+pub after-block-spec : {M : Type 1} → statement M
+after-block-spec =
+    tie.close
+    (tie.spec
+    (λ c. search needs)
+    (λ c κs. search needs)
+    (λ c. search needs)
+    (λ c κs. search needs)
+    (λ c κs. search needs)
+    returns
+    returns-2)

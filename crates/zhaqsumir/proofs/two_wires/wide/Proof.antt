@@ -1,0 +1,27 @@
+-- `zhaqsumir::two_wires::wide` meets its contract: six bytes, one after another.
+-- Assumes nothing.
+use Rattle.zhaqsumir.proofs.Counts.{all-places}
+use borrow.Author.Needs.{needs}
+use Rattle.zhaqsumir.proofs.two_wires.wide.Statement.{statement}
+use Rattle.zhaqsumir.proofs.two_wires.wide.Tie as tie
+
+returns : tie.Need-returns
+returns c = all-places 0 6 (c .args .t1) (search needs)
+
+pub wide-spec : {M : Type 1} → statement M
+wide-spec =
+    tie.close
+    (tie.spec
+    (λ c. search needs)
+    (λ c. search needs)
+    (λ c. search needs)
+    (λ c. search needs)
+    (λ c. search needs)
+    (λ c. search needs)
+    (λ c. search needs)
+    (λ c. search needs)
+    (λ c. search needs)
+    (λ c. search needs)
+    (λ c. search needs)
+    (λ c. search needs)
+    returns)
