@@ -22,13 +22,15 @@ pub enum Refusal {
     Keypad(u64),
     // 8: the buffer is shorter than the samples.
     Room,
-    // 9: a command field is out of range; the command's place in its list, 0 for a command alone.
+    // 9: a command field or a key's code is out of range, or a word of a CH450's list is neither parameters nor a digit; that word's
+    // place in the list, 0 for a command alone.
     Field(u64),
     // 10: a line isn't of the form; its number from 1.
     Line(u64),
     // 11: the text is longer than 65,536 bytes.
     Text,
-    // 12: a chip record or the levels hold what no chip can; so is a tally of captures with more chips than there can be.
+    // 12: a chip record or the levels hold what no chip can, of a CH450 what no run from power-on can; so is a tally of captures with more
+    // chips than there can be.
     Record,
     // 16: a count of a tally has no room for a line's samples and scans; the line's number from 1.
     Count(u64),

@@ -2,8 +2,8 @@
 --     played-wires                      the wires move by themselves, whatever is obeyed
 --     moved-levels                      their levels are the last sample's
 --     moved-agrees                      a transfer runs where one is counted, with as many rises, up to 20
---     stop-completes, completes-stop    a sample completes a command exactly where it is a stop after 19 rises
---     answer-1                          elsewhere neither settings nor digits nor the segments lit change
+--     stop-completes, completes-stop    a sample completes a transfer exactly where it is a stop after 19 rises
+--     only-stops-after-19                          elsewhere neither settings nor digits nor the segments lit change
 -- Assumes nothing.
 use mathlib.Core.Path.{_≡_, refl, ap, ap₂, subst, sym, _∙_}
 use mathlib.Core.Bool.{Bool, true, false, _&&_, true≢false}
@@ -20,7 +20,7 @@ use Rattle.ch450.specs.declared.Wires.{Wires}
 use Rattle.ch450.specs.Edges.{starts, stops, sclRises, idle, atRest, oneMore, taken, seen, stepped, completes}
 use Rattle.ch450.specs.Panel.{bodyOf, litOf, powerOn, withWires}
 use Rattle.ch450.specs.Samples.{steppedPanel, played}
-use Rattle.ch450.specs.Answers.{Transfer, none, since, risen, transferAfter, levelsAfter, StopAfter19, Answer1}
+use Rattle.ch450.specs.Answers.{RisesSoFar, none, since, risen, risesAfter, levelsAfter, StopAfter19, OnlyStopsAfter19}
 use Rattle.ch450.proofs.Silent.{moved, silent-step, played-append, step-wires, stepped-levels}
 
 -- ---- the wires
@@ -42,7 +42,7 @@ abbrev pub upTo20 : ℕ → ℕ
 upTo20 n = pick (ltb n 20) n 20
 
 -- wires beside a transfer that is counted from samples
-abbrev pub Agrees : Transfer → Wires → Type 0
+abbrev pub Agrees : RisesSoFar → Wires → Type 0
 Agrees none w = w .running ≡ false
 Agrees (since n) w = (w .running ≡ true) × (w .rises ≡ upTo20 n)
 
@@ -57,12 +57,12 @@ one-more-agrees n =
     (λ l. sym (pick-yes (suc n) 20 (lt-ltb (suc n) 20 l))))
 
 -- what holds of two choices by one test
-pick-both : (P : Transfer → Wires → Type 0) (b : Bool) {t u : Transfer} {w v : Wires} → P t w → P u v → P (pick b t u) (pick b w v)
+pick-both : (P : RisesSoFar → Wires → Type 0) (b : Bool) {t u : RisesSoFar} {w v : Wires} → P t w → P u v → P (pick b t u) (pick b w v)
 pick-both P true p q = p
 pick-both P false p q = q
 
 -- neither a start nor a stop
-rise-agrees : (s : ℕ) (w : Wires) (up : Bool) (t : Transfer) → Agrees t w
+rise-agrees : (s : ℕ) (w : Wires) (up : Bool) (t : RisesSoFar) → Agrees t w
     → Agrees (pick up (risen t) t) (pick (w .running && up) (taken s w) (seen s w))
 rise-agrees s w true none a = ap (λ b. pick (b && true) (taken s w) (seen s w) .running) a ∙ a
 rise-agrees s w false none a = ap (λ b. pick (b && false) (taken s w) (seen s w) .running) a ∙ a
@@ -76,27 +76,27 @@ rise-agrees s w false (since n) a = (
 )
 
 -- a transfer after one sample
-abbrev next : ℕ → ℕ → Transfer → Transfer
+abbrev next : ℕ → ℕ → RisesSoFar → RisesSoFar
 next was s t = pick (starts was s) (since 0) (pick (stops was s) none (pick (sclRises was s) (risen t) t))
 
 -- after one sample they agree again
-step-agrees : (s : ℕ) (w : Wires) (t : Transfer) → Agrees t w → Agrees (next (w .levels) s t) (stepped s w)
+step-agrees : (s : ℕ) (w : Wires) (t : RisesSoFar) → Agrees t w → Agrees (next (w .levels) s t) (stepped s w)
 unfolding stepped
 step-agrees s w t a =
     pick-both Agrees (starts (w .levels) s) (refl, refl)
     (pick-both Agrees (stops (w .levels) s) refl (rise-agrees s w (sclRises (w .levels) s) t a))
 
-pub moved-agrees : (ss : List ℕ) (w : Wires) (t : Transfer) → Agrees t w → Agrees (transferAfter (w .levels) t ss) (moved ss w)
-unfolding moved transferAfter
+pub moved-agrees : (ss : List ℕ) (w : Wires) (t : RisesSoFar) → Agrees t w → Agrees (risesAfter (w .levels) t ss) (moved ss w)
+unfolding moved risesAfter
 moved-agrees [] w t a = a
 moved-agrees (s ∷ ss) w t a =
-    subst (λ l. Agrees (transferAfter l (next (w .levels) s t) ss) (moved ss (stepped s w))) (stepped-levels s w)
+    subst (λ l. Agrees (risesAfter l (next (w .levels) s t) ss) (moved ss (stepped s w))) (stepped-levels s w)
     (moved-agrees ss (stepped s w) (next (w .levels) s t) (step-agrees s w t a))
 
 -- ---- what completes a command
 
 -- 19 rises in the record are 19 rises
-counted-19 : (t : Transfer) (w : Wires) → Agrees t w → w .running ≡ true → w .rises ≡ 19 → t ≡ since 19
+counted-19 : (t : RisesSoFar) (w : Wires) → Agrees t w → w .running ≡ true → w .rises ≡ 19 → t ≡ since 19
 counted-19 none w a runs e = absurd (true≢false (sym runs ∙ a))
 counted-19 (since n) w a runs e =
     by-order 20 n (λ past. let wrong = sym e ∙ a .1 ∙ pick-no n 20 (le-ltb n 20 past) in absurd (omega arith))
@@ -116,7 +116,7 @@ module _ (ss : List ℕ) (s : ℕ) where
   levels-here = moved-levels ss (atRest idle)
 
   -- and their rises
-  agrees-here : Agrees (transferAfter idle none ss) here
+  agrees-here : Agrees (risesAfter idle none ss) here
   agrees-here = moved-agrees ss (atRest idle) none refl
 
   pub completes-stop : completes s (wiresAfter ss) ≡ true → StopAfter19 ss s
@@ -127,7 +127,7 @@ module _ (ss : List ℕ) (s : ℕ) where
       let runs = is-true (here .running) (and-left (here .running) (eqb (here .rises) 19) counts) in
       let rises = is-true (eqb (here .rises) 19) (and-right (here .running) (eqb (here .rises) 19) counts) in
       let stop = is-true (stops (here .levels) s) (and-right (here .running && eqb (here .rises) 19) (stops (here .levels) s) all) in
-      (ap (λ l. stops l s) (sym levels-here) ∙ stop, counted-19 (transferAfter idle none ss) here agrees-here runs (eqb-true (here .rises) 19 rises))
+      (ap (λ l. stops l s) (sym levels-here) ∙ stop, counted-19 (risesAfter idle none ss) here agrees-here runs (eqb-true (here .rises) 19 rises))
 
   pub stop-completes : StopAfter19 ss s → completes s (wiresAfter ss) ≡ true
   unfolding completes
@@ -135,9 +135,9 @@ module _ (ss : List ℕ) (s : ℕ) where
       let a = subst (λ t. Agrees t here) (h .1) agrees-here in
       ap₂ (λ b n. b && eqb n 19 && stops (here .levels) s) (a .0) (a .1) ∙ ap (λ l. stops l s) levels-here ∙ h .0
 
-pub answer-1 : Answer1
+pub only-stops-after-19 : OnlyStopsAfter19
 unfolding played litOf
-answer-1 digits ss s elsewhere = (ap bodyOf same, ap litOf same)
+only-stops-after-19 digits ss s elsewhere = (ap bodyOf same, ap litOf same)
   where
     p : Panel
     p = powerOn digits

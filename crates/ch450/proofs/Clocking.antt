@@ -1,7 +1,8 @@
 -- Bits clocked in while a transfer runs: any number of bits, whatever was taken before.
 --     one-bit          2b, then 2b + 1, take the bit b
 --     bits-silent      bits complete no command
---     bits-taken       they are taken one after another: as many rises more
+--     bits-taken       they are taken one after another, and each is a rise
+--     few-counted      up to 20 rises, as many more as there are bits
 --     entered-law      as one number, they stand below those taken before, of which 19 are kept
 --     number-append    bits one after another, as one number
 -- Assumes nothing.
@@ -31,6 +32,11 @@ holding last rises bits = record { levels = 2 * last + 1; running = true; rises 
 unfoldable pub entered : ℕ → List ℕ → ℕ
 entered v [] = v
 entered v (b ∷ bs) = entered ((2 * v + b) % 2 ^ 19) bs
+
+-- the rises counted, up to 20
+unfoldable pub counted : ℕ → List ℕ → ℕ
+counted n [] = n
+counted n (b ∷ bs) = counted (oneMore n) bs
 
 -- the bit taken last
 abbrev pub lastOf : ℕ → List ℕ → ℕ
@@ -78,23 +84,20 @@ bits-silent (b ∷ bs) a n v bits h = (
   ),
 )
 
-pub bits-taken : (bs : List ℕ) (a n v : ℕ) → AllBelow 2 bs → a < 2 → n + length bs ≤ 20
-    → moved (clocking bs) (holding a n v) ≡ holding (lastOf a bs) (n + length bs) (entered v bs)
-unfolding clocking moved entered
-bits-taken [] a n v bits h room = let same : n ≡ n + 0 = omega arith in ap (λ r. holding a r v) same
-bits-taken (b ∷ bs) a n v bits h room =
-    ap (moved (clocking bs)) (one-bit n v a b h (bits .0) ∙ ap (λ r. holding b r next) one-more)
-    ∙ bits-taken bs b (suc n) next (bits .1) (bits .0) (omega arith)
-    ∙ ap (λ r. holding (lastOf b bs) r (entered next bs)) count
-  where
-    next : ℕ
-    next = (2 * v + b) % 2 ^ 19
+pub bits-taken : (bs : List ℕ) (a n v : ℕ) → AllBelow 2 bs → a < 2
+    → moved (clocking bs) (holding a n v) ≡ holding (lastOf a bs) (counted n bs) (entered v bs)
+unfolding clocking moved entered counted
+bits-taken [] a n v bits h = refl
+bits-taken (b ∷ bs) a n v bits h =
+    ap (moved (clocking bs)) (one-bit n v a b h (bits .0)) ∙ bits-taken bs b (oneMore n) ((2 * v + b) % 2 ^ 19) (bits .1) (bits .0)
 
-    one-more : oneMore n ≡ suc n
-    one-more = pick-yes (suc n) n (lt-ltb n 20 (omega arith))
-
-    count : suc n + length bs ≡ n + suc (length bs)
-    count = omega arith
+pub few-counted : (bs : List ℕ) (n : ℕ) → n + length bs ≤ 20 → counted n bs ≡ n + length bs
+unfolding counted
+few-counted [] n room = omega arith
+few-counted (b ∷ bs) n room =
+    let more : oneMore n ≡ suc n = pick-yes (suc n) n (lt-ltb n 20 (omega arith)) in
+    let count : suc n + length bs ≡ n + suc (length bs) = omega arith in
+    ap (λ m. counted m bs) more ∙ few-counted bs (suc n) (omega arith) ∙ count
 
 -- ---- bits as a number
 

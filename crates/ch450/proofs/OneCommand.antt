@@ -32,7 +32,7 @@ use Rattle.ch450.specs.Commands.{settingsOf, isDigitByte, meaningOf, wor
 use Rattle.ch450.specs.Samples.{steppedPanel, played, readsIn}
 use Rattle.ch450.specs.Written.{byteBits, clocking, commandSamples, writable}
 use Rattle.ch450.proofs.Silent.{Silent, moved, no-stop, silent-played, silent-reads, played-append, reads-append}
-use Rattle.ch450.proofs.Clocking.{holding, entered, number, bits-silent, bits-taken, entered-law, number-append}
+use Rattle.ch450.proofs.Clocking.{holding, entered, number, bits-silent, bits-taken, few-counted, entered-law, number-append}
 
 -- the 19 bits that a command's rises take: both bytes with their acknowledges, and 0 at the rise for the stop
 abbrev pub bitsOf : ℕ → List ℕ
@@ -91,7 +91,8 @@ front-silent word w e = (
 pub front-moved : (word : ℕ) (w : Wires) → w .levels ≡ idle → moved (front word) w ≡ holding 0 19 (entered 0 (bitsOf word))
 unfolding moved byteBits
 front-moved word w e =
-    ap (moved (clocking (bitsOf word))) (start-drops w e) ∙ bits-taken (bitsOf word) 0 0 0 (bits-below word) (lit< tt) (lit< tt)
+    ap (moved (clocking (bitsOf word))) (start-drops w e) ∙ bits-taken (bitsOf word) 0 0 0 (bits-below word) (lit< tt)
+    ∙ ap (λ n. holding 0 n (entered 0 (bitsOf word))) (few-counted (bitsOf word) 0 (lit< tt))
 
 -- ---- at the stop
 

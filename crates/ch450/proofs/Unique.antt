@@ -10,13 +10,14 @@ use Rattle.base.proofs.Unique.{same-answer, same-telling, same-verdict}
 use Rattle.ch450.specs.declared.commands.Encoded.{Encoded}
 use Rattle.ch450.specs.declared.commands.Encoded.the-variants as Enc
 use Rattle.ch450.specs.declared.play.Reading.{Reading}
+use Rattle.ch450.specs.declared.play.Reading.the-variants as Readings
 use Rattle.ch450.specs.declared.play.SampleAnswer.{SampleAnswer}
 use Rattle.ch450.specs.declared.play.SampleAnswer.the-variants as Sample
 use Rattle.ch450.specs.declared.play.PlayAnswer.{PlayAnswer}
 use Rattle.ch450.specs.declared.play.PlayAnswer.the-variants as Play
 use Rattle.ch450.specs.declared.writer.Written.{Written}
 use Rattle.ch450.specs.declared.writer.Written.the-variants as Writes
-use Rattle.ch450.specs.Entries.{encodedTells, sampleTells, playTells}
+use Rattle.ch450.specs.Entries.{encodedTells, Answered, nothing, code, answeredOf, sampleTells, playTells}
 use Rattle.ch450.specs.Written.{writtenTells}
 use Rattle.ch450.proofs.power_on
 use Rattle.ch450.proofs.apply
@@ -39,13 +40,22 @@ unfolding encoded
 encoded-back (Enc.Word w) = refl
 encoded-back (Enc.Refused e) = ap Enc.Refused (refusal-back e)
 
-sampled : Told Reading → SampleAnswer
-sampled (done what) = Sample.Took what
+reading : Answered → Reading
+reading nothing = Readings.Nothing
+reading (code key) = Readings.Code key
+
+reading-back : (what : Reading) → reading (answeredOf what) ≡ what
+unfolding reading
+reading-back Readings.Nothing = refl
+reading-back (Readings.Code key) = refl
+
+sampled : Told Answered → SampleAnswer
+sampled (done what) = Sample.Took (reading what)
 sampled (refused number place) = Sample.Refused (refusalOf number place)
 
 sampled-back : (r : SampleAnswer) → sampled (sampleTells r) ≡ r
 unfolding sampled
-sampled-back (Sample.Took what) = refl
+sampled-back (Sample.Took what) = ap Sample.Took (reading-back what)
 sampled-back (Sample.Refused e) = ap Sample.Refused (refusal-back e)
 
 played : Told ℕ → PlayAnswer
@@ -151,8 +161,8 @@ told-at-unique κs a x y last last′ p q = (same-answer p q, refl)
 pub stepped-unique : AllowsOne play.stepped.Kinds.ps play.stepped.Kinds.r play.stepped.Reads.Learnt
 stepped-unique κs a x y last last′ p q = (same-answer p q, refl)
 
-pub to-next-command-unique : AllowsOne play.to_next_command.Kinds.ps play.to_next_command.Kinds.r play.to_next_command.Reads.Learnt
-to-next-command-unique κs a x y last last′ p q = (same-answer p q, refl)
+pub to-next-transfer-unique : AllowsOne play.to_next_transfer.Kinds.ps play.to_next_transfer.Kinds.r play.to_next_transfer.Reads.Learnt
+to-next-transfer-unique κs a x y last last′ p q = (same-answer p q, refl)
 
 pub checked-unique : AllowsOne play.checked.Kinds.ps play.checked.Kinds.r play.checked.Reads.Learnt
 checked-unique κs a x y last last′ p q = (same-verdict {v = x} {w = y} (same-answer p q), refl)

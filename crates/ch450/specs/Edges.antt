@@ -47,7 +47,7 @@ atRest levels = record { levels = levels; running = false; rises = 0; bits = 0 }
 abbrev pub begun : ℕ → Wires
 begun levels = record { levels = levels; running = true; rises = 0; bits = 0 }
 
--- one rise more; above 20 they need not be told apart
+-- one rise more; above 19 they need not be told apart
 abbrev pub oneMore : ℕ → ℕ
 oneMore rises = pick (ltb rises 20) (suc rises) rises
 
@@ -73,7 +73,7 @@ stepped now w =
     pick (starts (w .levels) now) (begun now)
     (pick (stops (w .levels) now) (atRest now) (pick (takes now w) (taken now w) (seen now w)))
 
--- ---- a command completed
+-- ---- a transfer completed
 
 -- a stop when exactly 19 rises came since the start
 unfoldable pub completes : ℕ → Wires → Bool

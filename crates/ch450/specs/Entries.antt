@@ -61,23 +61,33 @@ unfoldable pub checkedFrom : ℕ → List ℕ → Told (Unit {0})
 checkedFrom place [] = done tt
 checkedFrom place (s ∷ ss) = pick (leb s 3) (checkedFrom (suc place) ss) (refused 1 place)
 
--- an obeyed 4FH answers with the caller's code, whatever byte 2 had
-abbrev pub readingOf : ℕ → Meaning → Reading
-readingOf key what = pick (isRead what) (Readings.Code key) Readings.Nothing
+-- what a sample answers: nothing, or the code of the key
+pub data Answered : Type 0 where
+  nothing : Answered
+  code : ℕ → Answered
 
-abbrev pub sampleTells : SampleAnswer → Told Reading
-sampleTells (Sample.Took what) = done what
+-- an obeyed 4FH answers with the caller's code, whatever byte 2 had
+abbrev pub answerTo : ℕ → Meaning → Answered
+answerTo key what = pick (isRead what) (code key) nothing
+
+-- what the code's own answer says
+abbrev pub answeredOf : Reading → Answered
+answeredOf Readings.Nothing = nothing
+answeredOf (Readings.Code key) = code key
+
+abbrev pub sampleTells : SampleAnswer → Told Answered
+sampleTells (Sample.Took what) = done (answeredOf what)
 sampleTells (Sample.Refused e) = refusedBy e
 
-abbrev pub handedSample : Sampled → Outcome Panel Reading
+abbrev pub handedSample : Sampled → Outcome Panel Answered
 handedSample r = record { state = r .panel; told = sampleTells (r .answer) }
 
 -- one sample: refusals 12, 9, 1
-unfoldable pub sampledOf : Panel → ℕ → ℕ → Outcome Panel Reading
+unfoldable pub sampledOf : Panel → ℕ → ℕ → Outcome Panel Answered
 sampledOf p key sample =
     onceTested (testedOf p key) p
     (pick (leb sample 3)
-    (record { state = steppedPanel sample p; told = done (readingOf key (toldAt sample (p .wires))) })
+    (record { state = steppedPanel sample p; told = done (answerTo key (toldAt sample (p .wires))) })
     (handsBack p 1 0))
 
 abbrev pub playTells : PlayAnswer → Told ℕ

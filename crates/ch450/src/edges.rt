@@ -33,10 +33,10 @@ fn scl_rises(was: u8, now: u8) -> bool
 fn stays_high(was: u8, now: u8) -> bool
     ensures { λ r. ⌜ r ≡ E.staysHigh was «now» ⌝ }
 {
-    if scl(was) {
-        return scl(now);
+    if !scl(now) {
+        return false;
     }
-    false
+    scl(was)
 }
 
 // SDA falls while SCL stays high: a transfer starts.

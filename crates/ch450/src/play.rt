@@ -75,7 +75,7 @@ pub(crate) fn stepped(panel: Panel, sample: u8) -> Panel
 
 // Plays samples from a place on, up to and with the next stop that completes a transfer, or to their end: no tests, for any panel
 // and samples.
-pub fn to_next_command(panel: Panel, samples: &[u8], from: usize) -> Stretch
+pub fn to_next_transfer(panel: Panel, samples: &[u8], from: usize) -> Stretch
     ensures { λ r. ⌜ r ≡ T.stretchFrom from (drop from (now (samples .entry))) panel ⌝ }
 {
     let mut next = panel;
@@ -127,7 +127,7 @@ fn all_played(panel: Panel, samples: &[u8]) -> Run
     let mut reads = 0;
     let mut i = 0;
     while i < samples.len() {
-        let part = to_next_command(next, samples, i);
+        let part = to_next_transfer(next, samples, i);
         let after = part.panel;
         let transfer = part.transfer;
         next = after;
@@ -166,7 +166,7 @@ fn tested(panel: Panel, key: u8) -> Verdict
 
 // The key's code, where the key is read.
 fn code_read(key: u8, what: Meaning) -> Reading
-    ensures { λ r. ⌜ r ≡ E.readingOf key what ⌝ }
+    ensures { λ r. ⌜ E.answeredOf r ≡ E.answerTo key what ⌝ }
 {
     if commands::is_read(what) {
         return Reading::Code(key);

@@ -23,7 +23,7 @@ use Rattle.ch450.specs.Entries.{checkedFrom}
 use Rattle.wires.specs.declared.Report.{Report}
 use Rattle.wires.specs.declared.walk.Took.{Took}
 use Rattle.wires.specs.Frames.{Form, samples, other, passed, isSamples, formOf}
-use Rattle.wires.specs.Parts.{Takes, outOf}
+use Rattle.wires.specs.Parts.{Takes}
 use Rattle.wires.specs.Replay.{taken}
 use Rattle.wires.proofs.Walked.{samples-long}
 

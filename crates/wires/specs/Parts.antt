@@ -28,10 +28,6 @@ abbrev pub firstBy : Told Begin → First
 firstBy (done b) = record { good = true; key = b .key; digits = b .digits }
 firstBy (refused number place) = noFirst
 
--- what a line that was taken wrote; nothing, where it was refused
-abbrev pub outOf : Told (List ℕ) → List ℕ
-outOf t = C.outOf t
-
 -- a line's outcome: the panel, whether it was taken, and what it wrote
 pub record Takes (o : Outcome Panel (List ℕ)) (at : ℕ) (out : List ℕ) (r : Took) (out′ : List ℕ) : Type 0 where
   pub panel : r .panel ≡ o .state

@@ -10,7 +10,7 @@ use lines::Frame;
 ghost use Prim.Native.Nat.{_+_, _≤_};
 ghost use lib.ListN.{length, drop};
 ghost use Rattle.base.specs.Refusals.{refused};
-ghost use Rattle.capture.specs.Parts.{Ends};
+ghost use Rattle.capture.specs.Parts.{Ends, outOf};
 ghost use Rattle.capture.specs.Reports.{refusalLine};
 ghost use Rattle.lines.specs.Answers.{heldBy};
 ghost use Rattle.lines.specs.Lines as L;
@@ -34,7 +34,7 @@ fn samples(what: Report, key: u8, panel: Panel, ss: &[u8], out: &mut [u8], at: u
     let mut end = at;
     let mut i = 0;
     while i < ss.len() {
-        let part = ch450::play::to_next_command(next, ss, i);
+        let part = ch450::play::to_next_transfer(next, ss, i);
         let after = part.panel;
         let transfer = part.transfer;
         next = after;
@@ -51,7 +51,7 @@ fn samples(what: Report, key: u8, panel: Panel, ss: &[u8], out: &mut [u8], at: u
 // A line after the first.
 fn line(what: Report, key: u8, panel: Panel, frame: Frame, out: &mut [u8], at: usize) -> Took
     requires { ⌜ frame .count ≤ 33 ⌝ }
-    requires { ⌜ at + length (P.outOf (R.taken what key panel (F.formOf (heldBy frame)) .told)) ≤ length (now out) ⌝ }
+    requires { ⌜ at + length (outOf (R.taken what key panel (F.formOf (heldBy frame)) .told)) ≤ length (now out) ⌝ }
     ensures { λ r. ⌜ P.Takes (R.taken what key panel (F.formOf (heldBy frame))) at (now (out .entry)) r (now (out .exit)) ⌝ }
 {
     let count = frame.count;

@@ -29,20 +29,20 @@ loop-holds c = (refl, zero-add _, search needs, search needs)
 
 add-reads : tie.Need-add-reads Inv-loop μ-loop
 add-reads c =
-    let once = read-once (c .before .before .to-next-command .result .transfer) in
+    let once = read-once (c .before .before .to-next-transfer .result .transfer) in
     search needs
 
 loop-less : tie.Need-loop-less Inv-loop μ-loop
 loop-less c =
     let o = c .before .before .before .before .loop in
-    let t = c .before .before .to-next-command in
+    let t = c .before .before .to-next-transfer in
     let ss = c .before .before .before .before .before .before .args .samples .now in
     stretch-fewer ss (o .i) (o .next) (t .result) (t .ensures) (c .before .before .before .loop-test .taken)
 
 loop-again : tie.Need-loop-again Inv-loop μ-loop
 loop-again c =
     let o = c .before .before .before .before .loop in
-    let t = c .before .before .to-next-command in
+    let t = c .before .before .to-next-transfer in
     let ss = c .before .before .before .before .before .before .args .samples .now in
     let within = stretch-within ss (o .i) (o .next) (t .result) (t .ensures) (c .before .before .before .loop-test .taken) in
     let once = read-once (t .result .transfer) in (

@@ -6,7 +6,6 @@ use Rattle.base.specs.Refusals.{done}
 use Rattle.base.proofs.Picks.{pick-yes, pick-no}
 use Rattle.base.proofs.Refusals.{by-done, by-refusal}
 use Rattle.ch450.specs.declared.Panel.{Panel}
-use Rattle.ch450.specs.declared.play.Reading.{Reading}
 use Rattle.ch450.specs.Entries as E
 use borrow.Author.Needs.{needs}
 use Rattle.ch450.proofs.play.sample.Statement.{statement}
@@ -27,8 +26,8 @@ returns-3 : tie.Need-returns-3
 unfolding E.sampledOf
 returns-3 c =
     let a = c .before .before .before .before .before .before .before .before .args in
-    ap₂ (λ (p : Panel) (r : Reading). record { state = p; told = done r }) (c .before .before .stepped .ensures)
-    (c .code-read .ensures ∙ ap (E.readingOf (a .key)) (c .before .told-at .ensures))
+    ap₂ (λ (p : Panel) (r : E.Answered). record { state = p; told = done r }) (c .before .before .stepped .ensures)
+    (c .code-read .ensures ∙ ap (E.answerTo (a .key)) (c .before .told-at .ensures))
     ∙ sym
     (by-done _ _ (c .before .before .before .before .before .before .before .tested .ensures)
     (c .before .before .before .before .before .enum-told .given .1)

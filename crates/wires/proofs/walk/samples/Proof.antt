@@ -21,19 +21,19 @@ loop-holds c =
 
 transfer-requires : tie.Need-transfer-requires Inv-loop μ-loop
 transfer-requires c κs =
-    let t = c .before .before .to-next-command in
+    let t = c .before .before .to-next-transfer in
     turn-room (c .before .before .before .before .loop .inv) (t .result) (t .ensures)
 
 loop-less : tie.Need-loop-less Inv-loop μ-loop
 loop-less c =
     let l = c .before .before .before .before .before .before .before .loop in
     let a = c .before .before .before .before .before .before .before .before .before .before .args in
-    let t = c .before .before .before .before .before .to-next-command in
+    let t = c .before .before .before .before .before .to-next-transfer in
     stretch-fewer (a .ss .now) (l .i) (l .next) (t .result) (t .ensures) (c .before .before .before .before .before .before .loop-test .taken)
 
 loop-again : tie.Need-loop-again Inv-loop μ-loop
 loop-again c =
-    let t = c .before .before .before .before .before .to-next-command in
+    let t = c .before .before .before .before .before .to-next-transfer in
     turn-again (c .before .before .before .before .before .before .before .loop .inv) (t .result) (t .ensures) (c .before .before .transfer .ensures)
 
 same-length : tie.Need-same-length Inv-loop μ-loop

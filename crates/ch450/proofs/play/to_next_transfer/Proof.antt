@@ -1,4 +1,4 @@
--- `ch450::play::to_next_command` meets its contract. The invariant: the stretch of the rest is that of the whole.
+-- `ch450::play::to_next_transfer` meets its contract. The invariant: the stretch of the rest is that of the whole.
 -- Assumes nothing.
 use mathlib.Core.Path.{_≡_, refl, ap₂, sym, _∙_}
 use Prim.Native.Nat.{_+_, _-_}
@@ -10,8 +10,8 @@ use Rattle.ch450.specs.declared.play.Transfer.the-variants.{Bytes}
 use Rattle.ch450.specs.Stretch.{stretchFrom}
 use Rattle.ch450.proofs.Stretches.{stretch-more, stretch-step, stretch-over}
 use borrow.Author.Needs.{needs}
-use Rattle.ch450.proofs.play.to_next_command.Statement.{statement}
-use Rattle.ch450.proofs.play.to_next_command.Tie as tie
+use Rattle.ch450.proofs.play.to_next_transfer.Statement.{statement}
+use Rattle.ch450.proofs.play.to_next_transfer.Tie as tie
 
 abbrev Inv-loop : tie.InvT-loop
 Inv-loop samples from next₀ i₀ next i = stretchFrom i (drop i samples) next ≡ stretchFrom from (drop from samples) next₀
@@ -44,8 +44,8 @@ returns-2 c =
     let o = c .before .loop in
     sym (stretch-over (c .before .before .before .args .samples .now) (o .i) (o .next) (c .loop-test .left)) ∙ o .inv
 
-pub to-next-command-spec : {M : Type 1} → statement M
-to-next-command-spec =
+pub to-next-transfer-spec : {M : Type 1} → statement M
+to-next-transfer-spec =
     tie.close
     (tie.spec
     Inv-loop
