@@ -93,7 +93,7 @@ fn show(c: Chip) {
 }
 
 // The character of the segments lit, by the sheet's table, and its point.
-fn glyph(s: u8) {
+pub fn glyph(s: u8) {
     let low = s % 128;
     match low {
         0x00 => put(b" "),

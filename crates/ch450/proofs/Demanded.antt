@@ -2,6 +2,7 @@
 --     written-below                    each sample is at most 3
 --     command-first                    a command's samples, from idle lines: the command applied directly, idle lines, and then the rest
 --     each-once                        in every beginning, the commands whose stop has come were applied, each once and in order
+--     played-all                       samples at most 3 are played, where nothing else is refused
 --     write-then-play                  what `write` wrote, `play` plays: nothing is refused, no key is read, every command is obeyed
 -- Assumes nothing.
 use mathlib.Core.Path.{_≡_, refl, ap, ap₂, subst, sym, _∙_}
@@ -184,7 +185,7 @@ all-checked place [] a = refl
 all-checked place (s ∷ ss) a = pick-yes _ _ (le-leb s 3 (le-of-suc-le-suc (a .0))) ∙ all-checked (suc place) ss (a .1)
 
 -- such samples are played, where nothing else is refused
-played-all : (p : Panel) (key : ℕ) (ss : List ℕ) → T (valid p) → key ≤ 127 → AllBelow 4 ss
+pub played-all : (p : Panel) (key : ℕ) (ss : List ℕ) → T (valid p) → key ≤ 127 → AllBelow 4 ss
     → playedOf p key ss ≡ record { state = played ss p; told = done (readsIn ss p) }
 unfolding playedOf testedOf
 played-all p key ss v h a =

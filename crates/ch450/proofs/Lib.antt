@@ -13,3 +13,4 @@ pub mod Repeats
 pub mod Valid
 pub mod Reached
 pub mod Unique
+pub mod Cases

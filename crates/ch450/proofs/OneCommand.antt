@@ -4,6 +4,8 @@
 --     front-silent, front-moved        the first 39 complete no command, and leave its 19 bits
 --     stop-means                       at the stop they mean what the word means
 --     command-plays                    the lines are idle again, and the command is obeyed
+--     front-played                     before the stop the wires alone have moved
+--     command-reads                    the key is read exactly where the word reads it
 --     command-unread                   a command that the writer takes reads no key
 -- Assumes nothing.
 use mathlib.Core.Path.{_≡_, refl, ap, ap₂, subst, sym, _∙_}
@@ -154,13 +156,26 @@ stop-means w =
 
 -- ---- the whole
 
+-- the panel before the stop: the wires alone have moved
+pub front-played : (w : ℕ) (p : Panel) → p .wires .levels ≡ idle → played (front w) p ≡ withWires (holding 0 19 (entered 0 (bitsOf w))) p
+front-played w p e = silent-played (front w) p (front-silent w (p .wires) e) ∙ ap (λ x. withWires x p) (front-moved w (p .wires) e)
+
 pub command-plays : (w : ℕ) (p : Panel) → p .wires .levels ≡ idle → played (commandSamples w) p ≡ obeyed (wordMeans w) (withWires (atRest idle) p)
 unfolding played steppedPanel stepped
 command-plays w p e =
     ap (λ ss. played ss p) (command-is w)
     ∙ played-append (front w) (3 ∷ []) p
-    ∙ ap (played (3 ∷ [])) (silent-played (front w) p (front-silent w (p .wires) e) ∙ ap (λ x. withWires x p) (front-moved w (p .wires) e))
+    ∙ ap (played (3 ∷ [])) (front-played w p e)
     ∙ ap (λ m. obeyed m (withWires (atRest idle) p)) (stop-means w)
+
+pub command-reads : (w : ℕ) (p : Panel) → p .wires .levels ≡ idle → readsIn (commandSamples w) p ≡ bitValue (isRead (wordMeans w))
+unfolding readsIn
+command-reads w p e =
+    ap (λ ss. readsIn ss p) (command-is w)
+    ∙ reads-append (front w) (3 ∷ []) p
+    ∙ ap₂ (λ x y. x + y) (silent-reads (front w) p (front-silent w (p .wires) e))
+    (ap (readsIn (3 ∷ [])) (front-played w p e) ∙ ap (λ m. bitValue (isRead m) + 0) (stop-means w))
+    ∙ omega arith
 
 -- parameters and digits read no key
 writes-no-read : (first second : ℕ) → (eqb first 0x48 || isDigitByte first) ≡ true → isRead (meaningOf first second) ≡ false
@@ -177,14 +192,4 @@ writes-no-read first second h = by-kind (eqb first 0x48) (isDigitByte first) h
     by-kind false false e = absurd (false≢true e)
 
 pub command-unread : (w : ℕ) (p : Panel) → p .wires .levels ≡ idle → writable w ≡ true → readsIn (commandSamples w) p ≡ 0
-unfolding readsIn
-command-unread w p e h =
-    ap (λ ss. readsIn ss p) (command-is w)
-    ∙ reads-append (front w) (3 ∷ []) p
-    ∙ ap₂ (λ x y. x + y) (silent-reads (front w) p silent)
-    (ap (readsIn (3 ∷ [])) (silent-played (front w) p silent ∙ ap (λ x. withWires x p) (front-moved w (p .wires) e))
-    ∙ ap (λ m. bitValue (isRead m) + 0) (stop-means w)
-    ∙ ap (λ b. bitValue b + 0) (writes-no-read (cut w 8 8) (cut w 0 8) h))
-  where
-    silent : Silent (front w) (p .wires)
-    silent = front-silent w (p .wires) e
+command-unread w p e h = command-reads w p e ∙ ap bitValue (writes-no-read (cut w 8 8) (cut w 0 8) h)

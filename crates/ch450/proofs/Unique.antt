@@ -17,7 +17,7 @@ use Rattle.ch450.specs.declared.play.PlayAnswer.{PlayAnswer}
 use Rattle.ch450.specs.declared.play.PlayAnswer.the-variants as Play
 use Rattle.ch450.specs.declared.writer.Written.{Written}
 use Rattle.ch450.specs.declared.writer.Written.the-variants as Writes
-use Rattle.ch450.specs.Entries.{encodedTells, Answered, nothing, code, answeredOf, sampleTells, playTells}
+use Rattle.ch450.specs.Entries.{encodedTells, Answered, noCode, theCode, answeredOf, sampleTells, playTells}
 use Rattle.ch450.specs.Written.{writtenTells}
 use Rattle.ch450.proofs.power_on
 use Rattle.ch450.proofs.apply
@@ -41,8 +41,8 @@ encoded-back (Enc.Word w) = refl
 encoded-back (Enc.Refused e) = ap Enc.Refused (refusal-back e)
 
 reading : Answered → Reading
-reading nothing = Readings.Nothing
-reading (code key) = Readings.Code key
+reading noCode = Readings.Nothing
+reading (theCode key) = Readings.Code key
 
 reading-back : (what : Reading) → reading (answeredOf what) ≡ what
 unfolding reading

@@ -63,17 +63,17 @@ checkedFrom place (s ∷ ss) = pick (leb s 3) (checkedFrom (suc place) ss) (refu
 
 -- what a sample answers: nothing, or the code of the key
 pub data Answered : Type 0 where
-  nothing : Answered
-  code : ℕ → Answered
+  noCode : Answered
+  theCode : ℕ → Answered
 
 -- an obeyed 4FH answers with the caller's code, whatever byte 2 had
 abbrev pub answerTo : ℕ → Meaning → Answered
-answerTo key what = pick (isRead what) (code key) nothing
+answerTo key what = pick (isRead what) (theCode key) noCode
 
 -- what the code's own answer says
 abbrev pub answeredOf : Reading → Answered
-answeredOf Readings.Nothing = nothing
-answeredOf (Readings.Code key) = code key
+answeredOf Readings.Nothing = noCode
+answeredOf (Readings.Code key) = theCode key
 
 abbrev pub sampleTells : SampleAnswer → Told Answered
 sampleTells (Sample.Took what) = done (answeredOf what)

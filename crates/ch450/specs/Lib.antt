@@ -8,3 +8,4 @@ pub mod Written
 pub mod Demand
 pub mod Answers
 pub mod Still
+pub mod Cases

@@ -3,7 +3,8 @@
 --     scan-exact, apply-exact, segments-exact       chain::one
 --     find-exact                                    chain::finder
 -- Assumes nothing.
-use mathlib.Core.List.{List, [], _∷_, _++_}
+use mathlib.Core.Path.{subst}
+use mathlib.Core.List.{List, [], _∷_, _++_, append-nil}
 use Prim.Native.Nat.{ℕ, suc}
 use lib.Dec.{leb, ltb}
 use Rattle.base.specs.Refusals.{Told, done, refused, Outcome, onceTested}
@@ -21,17 +22,17 @@ use Rattle.demands.proofs.ByTable.{ByTable, answered, by-table, tested,
 -- ---- the tests that several entries make
 
 -- a test, and what an entry does where it is passed
-told-after : {S A : Type 0} (t : Told (Unit {0})) (given : S) (next : Outcome S A) {rows : List Row} (more : List Row) → ByTable t rows
+pub told-after : {S A : Type 0} (t : Told (Unit {0})) (given : S) (next : Outcome S A) {rows : List Row} (more : List Row) → ByTable t rows
     → ByTable (next .told) more
     → ByTable (onceTested t given next .told) (rows ++ more)
 told-after (done u) given next more y z = goes-on y z
 told-after (refused number place) given next more y z = stays more y
 
 -- a test that is the last
-told-only : {S : Type 0} (t : Told (Unit {0})) (given s : S) {rows : List Row} → ByTable t rows
-    → ByTable {A = Unit {0}} (onceTested t given (record { state = s; told = done tt }) .told) rows
-told-only (done u) given s y = done-done tt y
-told-only (refused number place) given s y = y
+pub told-only : {S A : Type 0} (t : Told (Unit {0})) (given s : S) (answer : A) {rows : List Row} → ByTable t rows
+    → ByTable (onceTested t given (record { state = s; told = done answer }) .told) rows
+told-only (done u) given s answer y = done-done answer y
+told-only (refused number place) given s answer {rows} y = subst (ByTable (refused number place)) (append-nil rows) (stays [] y)
 
 first-tests : (n : ℕ) (ch : Chain) → ByTable (testedOf n ch) (chainTable n ch)
 unfolding testedOf
@@ -57,7 +58,7 @@ unfolding playedOf
 play-exact n ch samples =
     by-table
     (told-after (testedOf n ch) _ _ (each sampleRow 0 samples) (first-tests n ch)
-    (told-only (checkedFrom 0 samples) _ _ (sample-tests 0 samples)))
+    (told-only (checkedFrom 0 samples) _ _ _ (sample-tests 0 samples)))
 
 pub scan-exact : (n : ℕ) (ch : Chain) (k : ℕ) (bytes : List ℕ) → Exactly (scannedOf n ch k bytes .told) (oneTable n ch k)
 unfolding scannedOf

@@ -33,3 +33,8 @@ pub mod Shown
 pub mod Codes
 pub mod Tallied
 pub mod ExactTally
+pub mod PanelTests
+pub mod ExactTwoWires
+pub mod WiresForms
+pub mod ExactWires
+pub mod WiresUnchanged

@@ -39,7 +39,7 @@ first-bytes l n y =
     ap bytesIn (y .1) ∙ in-written (0x00 ∷ 0x01 ∷ n ∷ []) (omega arith, (omega arith, (omega arith, tt)))
 
 -- a number that isn't another, or is
-is-so : (m n : ℕ) → ((m ≡ n → ⊥) → ⊥) → m ≡ n
+pub is-so : (m n : ℕ) → ((m ≡ n → ⊥) → ⊥) → m ≡ n
 is-so m n f = by-equality m n (λ e. e) (λ ne. absurd (f ne))
 
 module _ (l : Line) where
@@ -80,7 +80,7 @@ pub data OtherView (n : ℕ) (l : Line) : Form → Type 0 where
   as-scan : (k : ℕ) (bytes : List ℕ) → ScanLine n l → OtherView n l (scan k bytes)
   as-none : (SamplesLine l ⊎ ScanLine n l → ⊥) → OtherView n l other
 
-below-more : (a b : ℕ) (xs : List ℕ) → a ≤ b → AllBelow a xs → AllBelow b xs
+pub below-more : (a b : ℕ) (xs : List ℕ) → a ≤ b → AllBelow a xs → AllBelow b xs
 below-more a b [] h y = tt
 below-more a b (x ∷ xs) h y = let l : x < a = y .0 in (omega arith, below-more a b xs h (y .1))
 

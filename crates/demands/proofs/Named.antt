@@ -15,26 +15,17 @@ use Rattle.chain.specs.Entries.{playedOf}
 use Rattle.chain.specs.Finder.{foundOf}
 use Rattle.writer.specs.Written.{answerOf}
 use Rattle.demands.specs.Exact.{Row, row, None, First}
-use Rattle.demands.specs.Refusals.{LowestAbove7, NotOneToMost, NotMultiple, MoreThan64Rows, ListFits, Unlisted, KeypadBeforeLast, AcceptedBefore, BufferShort, LevelsAbove7, UnheldChain}
-use Rattle.demands.specs.Tables.{sampleRow, sampleRows, wordRow, wordRows}
+use Rattle.demands.specs.Refusals.{SampleAbove7, LowestAbove7, NotOneToMost, NotMultiple, MoreThan64Rows, ListFits, Unlisted, KeypadBeforeLast, AcceptedBefore, BufferShort, LevelsAbove7, UnheldChain}
+use Rattle.demands.specs.Tables.{sampleRows, wordRow, wordRows}
 use Rattle.demands.proofs.ExactChain.{play-exact, find-exact}
 use Rattle.demands.proofs.ExactWriter.{write-exact}
-use Rattle.demands.proofs.Readings.{after-one, append-first, first-left, first-right, each-exactly, none-exactly}
+use Rattle.demands.proofs.Readings.{after-one, append-first, first-left, first-right, each-exactly, none-exactly, lowest-exactly}
 
 -- ---- samples
 
-lowest-at : (ss : List ℕ) (p k : ℕ) → k < length ss → First (sampleRow k (getD ss k 0)) 1 p
-    → ((j : ℕ) → j < k → None (sampleRow j (getD ss j 0)))
-    → LowestAbove7 ss p
-lowest-at ss p k h (inl g) all = subst (LowestAbove7 ss) (g .2) (h, g .0, λ q l. all q l .0)
-lowest-at ss p k h (inr g) all = absurd (g .1)
-
 -- of samples, 1 is given at the lowest place of a sample above 7
-pub lowest-exactly : (ss : List ℕ) (p : ℕ) → First (sampleRows ss) 1 p ↔ LowestAbove7 ss p
-lowest-exactly ss p = (
-  (λ f. let y = each-exactly sampleRow 1 p ss .0 f in lowest-at ss p (y .0) (y .1 .0) (y .1 .1) (y .1 .2)),
-  (λ y. each-exactly sampleRow 1 p ss .1 (p, (y .0, inl (y .1, refl, refl), λ j h. (y .2 j h, tt)))),
-)
+at-lowest : (ss : List ℕ) (p : ℕ) → First (sampleRows ss) 1 p ↔ LowestAbove7 ss p
+at-lowest = lowest-exactly 1 SampleAbove7
 
 pub play-lowest : (n : ℕ) (ch : Chain) (samples : List ℕ) (place : ℕ)
     → (playedOf n ch samples .told ≡ refused 1 place) ↔ ((NotOneToMost n → ⊥) × (UnheldChain n ch → ⊥) × LowestAbove7 samples place)
@@ -42,8 +33,8 @@ play-lowest n ch ss p = (
   (λ e.
       let f = after-one (row 3 (NotOneToMost n)) (row 12 (UnheldChain n ch) ∷ sampleRows ss) 1 p (λ q. omega arith) (play-exact n ch ss .refusal 1 p .0 e) in
       let g = after-one (row 12 (UnheldChain n ch)) (sampleRows ss) 1 p (λ q. omega arith) (f .1) in
-      (f .0, g .0, lowest-exactly ss p .0 (g .1))),
-  (λ y. play-exact n ch ss .refusal 1 p .1 (inr (y .0, inr (y .1, lowest-exactly ss p .1 (y .2))))),
+      (f .0, g .0, at-lowest ss p .0 (g .1))),
+  (λ y. play-exact n ch ss .refusal 1 p .1 (inr (y .0, inr (y .1, at-lowest ss p .1 (y .2))))),
 )
 
 pub find-lowest : (levels : ℕ) (samples : List ℕ) (place : ℕ)
@@ -51,8 +42,8 @@ pub find-lowest : (levels : ℕ) (samples : List ℕ) (place : ℕ)
 find-lowest levels ss p = (
   (λ e.
       let f = after-one (row 12 (LevelsAbove7 levels)) (sampleRows ss) 1 p (λ q. omega arith) (find-exact levels ss .refusal 1 p .0 e) in
-      (f .0, lowest-exactly ss p .0 (f .1))),
-  (λ y. find-exact levels ss .refusal 1 p .1 (inr (y .0, lowest-exactly ss p .1 (y .1)))),
+      (f .0, at-lowest ss p .0 (f .1))),
+  (λ y. find-exact levels ss .refusal 1 p .1 (inr (y .0, at-lowest ss p .1 (y .1)))),
 )
 
 -- ---- words

@@ -79,7 +79,7 @@ plain-kind kind bytes e =
     pick-cases (λ bs. lineTells bs ≡ done tt) (allHex (asHex (kind ∷ bytes)) && eqb (length (asHex (kind ∷ bytes)) % 2) 0)
     (λ q. pick-no _ _ e) (λ q. refl)
 
-plain-line : (kind : ℕ) (bytes : List ℕ) → eqb (16 * hexOf (hexFor (kind / 16)) + hexOf (hexFor (kind % 16))) 0x1F ≡ false → Plain (lineFor (kind ∷ bytes))
+pub plain-line : (kind : ℕ) (bytes : List ℕ) → eqb (16 * hexOf (hexFor (kind / 16)) + hexOf (hexFor (kind % 16))) 0x1F ≡ false → Plain (lineFor (kind ∷ bytes))
 plain-line kind bytes e rest =
     ap outputTells (written-line (kind ∷ bytes) rest) ∙ over (ended (asHex (kind ∷ bytes))) (linesOf rest) (plain-kind kind bytes e)
 
@@ -154,7 +154,7 @@ before-length ch [] = omega arith
 before-length ch (ended chars ∷ ls) = omega arith
 before-length ch (cutOff chars ∷ ls) = omega arith
 
-lines-length : (text : List ℕ) → length (linesOf text) ≤ length text
+pub lines-length : (text : List ℕ) → length (linesOf text) ≤ length text
 unfolding linesOf
 lines-length [] = omega arith
 lines-length (ch ∷ text) =

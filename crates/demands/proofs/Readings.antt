@@ -5,8 +5,9 @@
 --     each-exactly     of rows for each element of a list: the first element with a row that is given
 --     none-exactly     and none of them
 --     after-one        after a row of another number
+--     lowest-exactly   of one row for each element: the lowest place with one that is given
 -- Assumes nothing.
-use mathlib.Core.Path.{_≡_, sym, subst}
+use mathlib.Core.Path.{_≡_, refl, sym, subst}
 use mathlib.Core.Logic.{_⊎_, inl, inr, ⊎-elim, _↔_}
 use mathlib.Core.List.{List, [], _∷_, _++_}
 use Prim.Native.Nat.{ℕ, zero, suc, _+_, _<_, suc-le-suc}
@@ -14,7 +15,7 @@ use native.Mathlib.Nat.{le-of-suc-le-suc, not-suc-le-zero, zero-lt-suc}
 use native.Mathlib.Omega.{arith}
 use lib.ListN.{length, getD}
 use Rattle.base.specs.Refusals.{Told, refused}
-use Rattle.demands.specs.Exact.{Row, each, None, Gives, First, Exactly, NoneOf}
+use Rattle.demands.specs.Exact.{Row, names, each, None, Gives, First, Exactly, NoneOf}
 
 -- ---- a result
 
@@ -180,4 +181,27 @@ module _ (rows : ℕ → ℕ → List Row) where
   none-exactly xs = (
     (λ n k h. subst (λ s. None (rows s (getD xs k 0))) (from-0 rows 0 0 k) (none-each 0 xs n k h)),
     (λ y. each-none 0 xs (λ k h. subst (λ s. None (rows s (getD xs k 0))) (sym (from-0 rows 0 0 k)) (y k h))),
+  )
+
+-- ---- one row for each element
+
+module _ (number : ℕ) (Bad : ℕ → Type 0) where
+  -- a row at a place
+  abbrev pub badRow : ℕ → ℕ → List Row
+  badRow place x = names number place (Bad x) ∷ []
+
+  -- a place with a row that is given, and the lowest
+  abbrev pub Lowest : List ℕ → ℕ → Type 0
+  Lowest xs place = (place < length xs) × Bad (getD xs place 0) × ((q : ℕ) → q < place → Bad (getD xs q 0) → ⊥)
+
+  lowest-at : (xs : List ℕ) (p k : ℕ) → k < length xs → First (badRow k (getD xs k 0)) number p
+      → ((j : ℕ) → j < k → None (badRow j (getD xs j 0)))
+      → Lowest xs p
+  lowest-at xs p k h (inl g) all = subst (Lowest xs) (g .2) (h, g .0, λ q l. all q l .0)
+  lowest-at xs p k h (inr g) all = absurd (g .1)
+
+  pub lowest-exactly : (xs : List ℕ) (p : ℕ) → First (each badRow 0 xs) number p ↔ Lowest xs p
+  lowest-exactly xs p = (
+    (λ f. let y = each-exactly badRow number p xs .0 f in lowest-at xs p (y .0) (y .1 .0) (y .1 .1) (y .1 .2)),
+    (λ y. each-exactly badRow number p xs .1 (p, (y .0, inl (y .1, refl, refl), λ j h. (y .2 j h, tt)))),
   )

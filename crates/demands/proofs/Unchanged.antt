@@ -1,5 +1,6 @@
 -- Demand 1, "a refusal changes no chip and no byte of a lent buffer": the theorem.
 --     by-pick, by-after             a choice, and a test before it, hand back what their sides do
+--     front-of, rest-of             what is laid at an array's front, and the rest of it
 --     text-kept                     what a refused text leaves
 --     refusals-change-nothing       the theorem
 -- Assumes nothing.
@@ -36,14 +37,14 @@ use Rattle.demands.proofs.UnchangedTally.{never, is-refusal, count-refu
 -- ---- outcomes
 
 -- a result that a contract allows
-by-contract : {S A : Type 0} {o p : Outcome S A} {given : S} → o ≡ p → HandsBack p given → HandsBack o given
+pub by-contract : {S A : Type 0} {o p : Outcome S A} {given : S} → o ≡ p → HandsBack p given → HandsBack o given
 by-contract {given = given} e = subst (λ x. HandsBack x given) (sym e)
 
-by-pick : {S A : Type 0} (b : Bool) (x y : Outcome S A) {given : S} → HandsBack x given → HandsBack y given → HandsBack (pick b x y) given
+pub by-pick : {S A : Type 0} (b : Bool) (x y : Outcome S A) {given : S} → HandsBack x given → HandsBack y given → HandsBack (pick b x y) given
 by-pick true x y p q = p
 by-pick false x y p q = q
 
-by-after : {S A : Type 0} (t : Told (Unit {0})) (given : S) (next : Outcome S A) → HandsBack next given → HandsBack (onceTested t given next) given
+pub by-after : {S A : Type 0} (t : Told (Unit {0})) (given : S) (next : Outcome S A) → HandsBack next given → HandsBack (onceTested t given next) given
 by-after (done u) given next p = p
 by-after (refused number place) given next p = λ m q e. refl
 
@@ -58,14 +59,22 @@ kept-bytes t samples out e = ap (λ x. bytesBy x samples out) e
 
 -- ---- a text
 
+-- what is laid at an array's front stands there, and the rest is as it was
+module _ (laid-out out : List ℕ) {out′ : List ℕ} {bytes : ℕ} (count : bytes ≡ length laid-out) (so : out′ ≡ laid laid-out out) where
+  pub front-of : take bytes out′ ≡ laid-out
+  front-of = ap (take bytes) so ∙ take-at laid-out (drop (length laid-out) out) bytes (sym count)
+
+  pub rest-of : drop bytes out′ ≡ drop bytes out
+  rest-of = ap (drop bytes) so ∙ drop-at laid-out (drop (length laid-out) out) bytes (sym count) ∙ ap (λ n. drop n out) (sym count)
+
 text-kept : (what : Capture.Report) (text out out′ : List ℕ) (bytes number line : ℕ) → endOf text ≡ refused number line
     → bytes ≡ length (outputOf what text) → out′ ≡ laid (outputOf what text) out → TextRefused what text out out′ number line bytes
-text-kept what text out out′ bytes number line e count laid-so =
+text-kept what text out out′ bytes number line e count so =
     let whole = text-output what text .refusal number line (text-exact text .refusal number line .0 e) in
     record {
-      front = ap (take bytes) laid-so ∙ take-at (outputOf what text) (drop (length (outputOf what text)) out) bytes (sym count) ∙ whole;
+      front = front-of (outputOf what text) out count so ∙ whole;
       counted = count ∙ ap length whole;
-      rest = ap (drop bytes) laid-so ∙ drop-at (outputOf what text) (drop (length (outputOf what text)) out) bytes (sym count) ∙ ap (λ n. drop n out) (sym count);
+      rest = rest-of (outputOf what text) out count so;
     }
 
 -- ---- answers by numbers

@@ -9,6 +9,9 @@ pub mod Tables
 pub mod Texts
 pub mod Tallies
 pub mod Unchanged
+pub mod TwoWires
+pub mod WiresTexts
+pub mod WiresUnchanged
 pub mod Direct
 pub mod Whole
 pub mod Alone

@@ -1,12 +1,14 @@
-// Runs document 01's run-only cases and others of chains, the finder, the writer and full counts, and writes a line for each. What it must write
-// stands in the file `stdout`, which was written from document 01.
+// Runs document 01's run-only cases and others of chains, the finder, the writer and full counts, and those of the CH450, and writes a line
+// for each. What it must write stands in the file `stdout`, which was written from document 01 and C-15.
 mod chains;
 mod full;
 mod text;
+mod two_wires;
 mod writes;
 
 fn main() {
     chains::run();
     writes::run();
     full::run();
+    two_wires::run();
 }

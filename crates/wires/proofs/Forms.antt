@@ -18,6 +18,7 @@ use Rattle.base.specs.Refusals.{Told}
 use Rattle.base.proofs.Picks.{pick-yes, pick-no}
 use Rattle.capture.proofs.Read.{front-rest}
 use Rattle.capture.proofs.Reported.{none-put}
+use Rattle.capture.specs.Parts.{outOf}
 use Rattle.ch450.specs.declared.Panel.{Panel}
 use Rattle.ch450.specs.Entries.{checkedFrom}
 use Rattle.wires.specs.declared.Report.{Report}
