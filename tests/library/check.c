@@ -35,6 +35,55 @@ unsigned long one_of(unsigned long count, const unsigned long values[])
     return values[below(count)];
 }
 
+unsigned long near_a_limit(void)
+{
+    static const unsigned long limits[] = { 0, 1, 2, 3, 4, 7, 8, 9, 15, 16, 62, 63, 64, 65, 66, 126, 127, 128, 129, 254, 255, 256, 257 };
+    static const unsigned long high[] = { 1ul << 8, 1ul << 16, 1ul << 31, 1ul << 32, 1ul << 63, ~0ul << 8, ~0ul << 16, ~0ul << 32 };
+    unsigned long near = one_of(23, limits);
+
+    switch (below(16)) {
+    case 0:
+        return any();
+    case 1:
+        return ~0ul - below(3);
+    case 2:
+    case 3:
+        return near + one_of(8, high);
+    default:
+        return near;
+    }
+}
+
+unsigned long place_in(unsigned long count)
+{
+    switch (below(4)) {
+    case 0:
+        return count - 1;
+    case 1:
+        return 0;
+    default:
+        return below(count);
+    }
+}
+
+unsigned long room_for(unsigned long samples, unsigned long most)
+{
+    switch (below(8)) {
+    case 0:
+        return samples > 0 ? samples - 1 : 0;
+    case 1:
+        return below(samples + 1);
+    case 2:
+        return once_in(4) ? 0 : samples + 1;
+    case 3:
+        return samples + below(100);
+    case 4:
+        return once_in(10) ? most - below(100) : samples + below(1000);
+    default:
+        return samples;
+    }
+}
+
 /* ---- memory ---- */
 
 enum { PAGES = 65536 };                                 /* a multiple of every machine's page */

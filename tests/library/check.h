@@ -9,6 +9,9 @@ unsigned long any(void);                                /* any 64 bits */
 unsigned long below(unsigned long bound);               /* 0 to bound - 1 */
 int once_in(unsigned long times);                       /* true once in so many times */
 unsigned long one_of(unsigned long count, const unsigned long values[]);
+unsigned long near_a_limit(void);                       /* at or about a limit of some field, or small by its low bits alone */
+unsigned long place_in(unsigned long count);            /* of a list: the first, the last or any */
+unsigned long room_for(unsigned long samples, unsigned long most); /* exact, one short, a little or much longer, shorter, or none */
 
 /* ---- what is lent to be read: it ends where no byte can be read ---- */
 
@@ -67,12 +70,19 @@ void must(int holds, const char *what);                 /* a fault of the test i
 enum { MOST_TEXT = 81920 };
 const unsigned char *random_text(unsigned long *size);
 
+/* ---- byte 1 of a CH450's command: one that the writer takes, and another, half of them 4FH ---- */
+
+unsigned long written_byte1(void);
+unsigned long other_byte1(void);
+
 /* ---- the parts of the test ---- */
 
 void compare_words(unsigned long count);
 void compare_samples(unsigned long count);
 void compare_texts(unsigned long count);
 void compare_tallies(unsigned long count);
+void compare_ch450(unsigned long count);
+void compare_panels(unsigned long count);
 void compare_capture(const char *text, const char *got);
 
 #endif

@@ -82,19 +82,6 @@ static unsigned long rows(void)
     }
 }
 
-/* A place of a list, the first, the last or any. */
-static unsigned long place_in(unsigned long count)
-{
-    switch (below(4)) {
-    case 0:
-        return count - 1;
-    case 1:
-        return 0;
-    default:
-        return below(count);
-    }
-}
-
 static unsigned long list(unsigned long n, unsigned short words[MOST_WORDS])
 {
     unsigned long width = n >= 1 && n <= MOST ? n : 1 + below(MOST);
@@ -113,25 +100,6 @@ static unsigned long list(unsigned long n, unsigned short words[MOST_WORDS])
     return count;
 }
 
-/* Exact, one short, a little or much longer, shorter, or none at all. */
-static unsigned long room_for(unsigned long samples)
-{
-    switch (below(8)) {
-    case 0:
-        return samples > 0 ? samples - 1 : 0;
-    case 1:
-        return below(samples + 1);
-    case 2:
-        return once_in(4) ? 0 : samples + 1;
-    case 3:
-        return samples + below(100);
-    case 4:
-        return once_in(10) ? MOST_ROOM - below(100) : samples + below(1000);
-    default:
-        return samples;
-    }
-}
-
 static void write_one(void)
 {
     static unsigned short words[MOST_WORDS];
@@ -140,7 +108,7 @@ static void write_one(void)
     const unsigned short *lent = put_up(&lists, words, count * sizeof words[0]);
     const unsigned long *want = to_twin(&answers);
 
-    room = room_for(samples < MOST_SAMPLES ? samples : 64 * 194);
+    room = room_for(samples < MOST_SAMPLES ? samples : 64 * 194, MOST_ROOM);
     lend(&answers, 3 * sizeof(unsigned long));
     lend_anywhere(&buffers, room);
     zhaqsumir_write(n, lent, count, to_library(&buffers), room, to_library(&answers));

@@ -79,26 +79,6 @@ static void encode_one(const unsigned long command[6])
         (want[0] == 0 ? legal_of : refused_of)[command[0]]++;
 }
 
-/* A number at or about a limit of some field, or one that only its low bits would make small. */
-static unsigned long near_a_limit(void)
-{
-    static const unsigned long limits[] = { 0, 1, 2, 7, 8, 9, 15, 16, 62, 63, 64, 65, 66, 126, 127, 128, 129, 254, 255, 256, 257 };
-    static const unsigned long high[] = { 1ul << 8, 1ul << 16, 1ul << 31, 1ul << 32, 1ul << 63, ~0ul << 8, ~0ul << 16, ~0ul << 32 };
-    unsigned long near = one_of(21, limits);
-
-    switch (below(16)) {
-    case 0:
-        return any();
-    case 1:
-        return ~0ul - below(3);
-    case 2:
-    case 3:
-        return near + one_of(8, high);
-    default:
-        return near;
-    }
-}
-
 static void encode_random(void)
 {
     static const unsigned long most[] = { 1, 1, 1, 7, 63, 64, 127, 255 };
