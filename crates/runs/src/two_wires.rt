@@ -1,5 +1,6 @@
-// C-15's run-only cases of the CH450: 18 and 20 rises, a repeated start, a stop with both lines moving, sample 4 after a good command, key
-// codes 127 and 128, 64 and 65 commands, a buffer exact and one short. The command is 48H, 01H, which turns the display on.
+// C-15's run-only cases of the CH450: 18 and 20 rises, a repeated start, a stop with both lines moving, an unknown byte 1
+// while asleep, sample 4 after a good command, key codes 127 and 128, 64 and 65 commands, a buffer exact and one short. The command is 48H,
+// 01H, which turns the display on.
 use crate::chains::refusal;
 use crate::text::line_end;
 use crate::text::put;
@@ -12,6 +13,7 @@ use ch450::writer::Written;
 pub fn run() {
     rises();
     edges();
+    asleep();
     refused();
     written();
 }
@@ -65,6 +67,32 @@ fn edges() {
     shown(command(after(play(idle(), b"\x01\x02\x03")), 0x23));
     put(b"CH450 a stop with both lines moving: ");
     shown(play(all_but_the_stop(), b"\x03"));
+}
+
+// SLEEP of a panel.
+fn sleep_of(p: Panel) {
+    bit(p.settings.sleep);
+}
+
+// An unknown byte 1 leaves SLEEP, which no text can show; a read clears it. 48H, 81H, then 47H, 01H, then 4FH, FFH.
+fn asleep() {
+    let words = [0x4881u16];
+    let mut out = [0u8; 40];
+    ch450::writer::write(&words, &mut out);
+    let sleeping = after(play(idle(), &out));
+    let unknown =
+        b"\x01\x00\x01\x02\x03\x00\x01\x00\x01\x00\x01\x02\x03\x02\x03\x02\x03\x02\x03\x00\x01\x00\x01\x00\x01\x00\x01\x00\x01\x00\x01\x00\x01\x02\x03\x02\x03\x00\x01\x03";
+    let still = after(play(sleeping, unknown));
+    let read =
+        b"\x01\x00\x01\x02\x03\x00\x01\x00\x01\x02\x03\x02\x03\x02\x03\x02\x03\x02\x03\x02\x03\x02\x03\x02\x03\x02\x03\x02\x03\x02\x03\x02\x03\x02\x03\x02\x03\x00\x01\x03";
+    let awake = after(play(still, read));
+    put(b"CH450 asleep: SLEEP ");
+    sleep_of(sleeping);
+    put(b", after an unknown byte 1 ");
+    sleep_of(still);
+    put(b", after a read ");
+    sleep_of(awake);
+    line_end();
 }
 
 fn refused() {
