@@ -9,7 +9,31 @@
 #include "twin.h"
 #include "zhaqsumir.h"
 
-enum { TURNS = 9, CHIPS = 8, ROWS = 64, BLOCK = 65536 };
+enum { TURNS = 9, CHIPS = 8, ROWS = 64, BLOCK = 65536, PANEL_COMMANDS = ZHAQSUMIR_CH450_MOST_COMMANDS };
+
+/* A CH450's panel at power-on, played and then asked what it lights: as numbers, and by the twin's record. */
+static unsigned long play_numbers(const unsigned char *from, unsigned long count)
+{
+    unsigned long panel[ZHAQSUMIR_CH450_PANEL] = ZHAQSUMIR_CH450_POWER_ON(0, 0, 0, 0, 0, 0);
+    unsigned long answer[ZHAQSUMIR_CH450_PLAY_ANSWER], lit[ZHAQSUMIR_CH450_LIT_ANSWER];
+
+    zhaqsumir_ch450_play(panel, 0, from, count, answer);
+    zhaqsumir_ch450_lit(panel, lit);
+    return answer[0] + answer[2] + lit[ZHAQSUMIR_CH450_SEGMENTS] + 3 * lit[ZHAQSUMIR_CH450_SEGMENTS + SIX - 1];
+}
+
+static unsigned long play_record(const unsigned char *from, unsigned long count)
+{
+    static const unsigned char zeros[SIX];
+    unsigned long answer[ZHAQSUMIR_CH450_PLAY_ANSWER];
+    unsigned char lit[SIX];
+    struct ch450 chip;
+
+    ch450_start(&chip, zeros);
+    twin_ch450_play(&chip, 0, from, count, answer);
+    ch450_lit(&chip, lit);
+    return answer[0] + answer[2] + lit[0] + 3ul * lit[SIX - 1];
+}
 
 /* Both sides are called by pointers, so that no compiler takes the twin apart where it is called. */
 struct side {
@@ -18,10 +42,14 @@ struct side {
     void (*write)(unsigned long, const unsigned short *, unsigned long, unsigned char *, unsigned long, unsigned long *);
     void (*find)(unsigned char, const unsigned char *, unsigned long, unsigned long *);
     void (*replay)(const unsigned char *, unsigned long, unsigned char *, unsigned long *);
+    void (*ch450_encode)(const unsigned long *, unsigned long *);
+    void (*ch450_write)(const unsigned short *, unsigned long, unsigned char *, unsigned long, unsigned long *);
+    unsigned long (*ch450_play)(const unsigned char *, unsigned long);
 };
 static const struct side sides[2] = {
-    { zhaqsumir_decode, zhaqsumir_encode, zhaqsumir_write, zhaqsumir_find, zhaqsumir_replay },
-    { twin_decode, twin_encode, twin_write, twin_find, twin_replay },
+    { zhaqsumir_decode, zhaqsumir_encode, zhaqsumir_write, zhaqsumir_find, zhaqsumir_replay, zhaqsumir_ch450_encode,
+      zhaqsumir_ch450_write, play_numbers },
+    { twin_decode, twin_encode, twin_write, twin_find, twin_replay, twin_ch450_encode, twin_ch450_write, play_record },
 };
 
 static unsigned short words[ROWS * CHIPS];
@@ -29,6 +57,8 @@ static unsigned char samples[ROWS * ZHAQSUMIR_ROW_SAMPLES(CHIPS)], block[BLOCK];
 static unsigned long commands[4096][ZHAQSUMIR_COMMAND], legal;
 static unsigned char text[ZHAQSUMIR_MOST_TEXT + 1], of_rows[ZHAQSUMIR_MOST_TEXT], out[ZHAQSUMIR_REPLAY_ROOM];
 static unsigned long length, length_of_rows;
+static unsigned short panel_words[PANEL_COMMANDS];
+static unsigned char panel_samples[PANEL_COMMANDS * ZHAQSUMIR_CH450_COMMAND_SAMPLES];
 
 /* ---- the jobs; each gives a number that tells its answers ---- */
 
@@ -101,6 +131,32 @@ static unsigned long replay_rows(const struct side *side)
     return replay(side, of_rows, length_of_rows);
 }
 
+static unsigned long encode_panel(const struct side *side)
+{
+    unsigned long answer[ZHAQSUMIR_ENCODE_ANSWER], command[ZHAQSUMIR_CH450_COMMAND] = { ZHAQSUMIR_CH450_LOAD_DIGIT }, sum = 0;
+
+    for (command[1] = 2; command[1] <= 7; command[1]++) {
+        for (command[2] = 0; command[2] <= 255; command[2]++) {
+            side->ch450_encode(command, answer);
+            sum = 3 * sum + answer[0] + answer[2];
+        }
+    }
+    return sum;
+}
+
+static unsigned long write_panel(const struct side *side)
+{
+    unsigned long answer[ZHAQSUMIR_WRITE_ANSWER];
+
+    side->ch450_write(panel_words, PANEL_COMMANDS, panel_samples, sizeof panel_samples, answer);
+    return answer[0] + answer[2] + panel_samples[sizeof panel_samples / 2];
+}
+
+static unsigned long play_panel(const struct side *side)
+{
+    return side->ch450_play(panel_samples, sizeof panel_samples);
+}
+
 static const struct job {
     const char *name;
     unsigned long (*work)(const struct side *);
@@ -112,6 +168,9 @@ static const struct job {
     { "encode: all 3,254 commands", encode_all },
     { "replay: 64 rows of 8 chips, a rise in 194 samples", replay_rows },
     { "replay: the longest capture, a rise in 2 samples", replay_text },
+    { "ch450_encode: all 1,536 commands that load a digit", encode_panel },
+    { "ch450_write: 64 commands, 2,560 samples", write_panel },
+    { "ch450_play: 2,560 written samples, and ch450_lit", play_panel },
 };
 enum { JOBS = sizeof jobs / sizeof jobs[0] };
 
@@ -156,6 +215,11 @@ static int prepare(const char *name)
         of_rows[length_of_rows++] = (unsigned char)('0' + samples[i]);
     }
     of_rows[length_of_rows++] = '\n';
+    for (i = 0; i < PANEL_COMMANDS; i++) {                                      /* DISP on, then digits in turn */
+        seed = seed * 6364136223846793005 + 1442695040888963407;
+        panel_words[i] = (unsigned short)(i == 0 ? 0x4801 : (0x64 + 2 * (i % SIX)) << 8 | (seed >> 40 & 255));
+    }
+    twin_ch450_write(panel_words, PANEL_COMMANDS, panel_samples, sizeof panel_samples, answer);
     return 1;
 }
 

@@ -1,60 +1,89 @@
-/* Shows an amount on a CH450 panel: encodes the commands, writes their samples, and plays these into a panel to see what is lit. */
+/* Shows 1049.50 on the CH450 of an old kiosk: encodes the commands, writes their samples, plays these into a panel and prints what
+ * it lights. Then it reads the key. */
 #include <stdio.h>
 #include "zhaqsumir.h"
 
-#define COMMANDS (1 + ZHAQSUMIR_CH450_DIGITS)
-#define POINT 0x80
+#define DIGITS 6
+#define COMMANDS (DIGITS + 1)
+#define CONFIRM 0x63 /* the code of the key at DIG3 and SEG4, pressed */
 
-/* The segments of the figures 0 to 9. */
-static const unsigned char shapes[10] = { 0x3F, 0x06, 0x5B, 0x4F, 0x66, 0x6D, 0x7D, 0x07, 0x7F, 0x6F };
+/* What power-on left in the six digits; nothing says what that is. */
+static unsigned long panel[ZHAQSUMIR_CH450_PANEL] = ZHAQSUMIR_CH450_POWER_ON(0xA5, 0x5A, 0xFF, 0x00, 0x12, 0xFF);
 
-/* The word of a command. Where it is refused: a word that is no command, so that the writer refuses the list. */
+/* The word of a command. Where it is refused: one that no table has, so that the writer refuses it too. */
 static unsigned short word_of(const unsigned long command[ZHAQSUMIR_CH450_COMMAND])
 {
     unsigned long answer[ZHAQSUMIR_ENCODE_ANSWER];
 
     zhaqsumir_ch450_encode(command, answer);
-    return answer[ZHAQSUMIR_NUMBER] == 0 ? (unsigned short)answer[ZHAQSUMIR_ENCODED_WORD] : 0;
+    return answer[ZHAQSUMIR_NUMBER] == 0 ? (unsigned short)answer[ZHAQSUMIR_ENCODED_WORD] : 0xFFFF;
 }
 
-/* Display on; then the six digits of an amount in hundredths, the highest in DIG2, a point after the fourth. */
-static void amount_words(unsigned long amount, unsigned short words[COMMANDS])
+/* The samples of a read, which the till clocks itself: at byte 2 SDA is the chip's. */
+static void clock_read(unsigned short word, unsigned char samples[ZHAQSUMIR_CH450_COMMAND_SAMPLES])
 {
-    const unsigned long on[ZHAQSUMIR_CH450_COMMAND] = { ZHAQSUMIR_CH450_PARAMETERS, 0, 0, 0, 1 };
-    unsigned long digit;
+    unsigned long bits = (word & 0xFF00ul) << 2 | 1 << 9 | (word & 0xFFul) << 1 | 1; /* acknowledges are 1 */
+    int place;
 
-    words[0] = word_of(on);
-    for (digit = 7; digit >= 2; digit--) {
-        unsigned long load[ZHAQSUMIR_CH450_COMMAND] = { ZHAQSUMIR_CH450_LOAD_DIGIT, digit };
+    *samples++ = ZHAQSUMIR_CH450_SCL;
+    for (place = 17; place >= 0; place--) {
+        unsigned char sda = (unsigned char)((bits >> place & 1) * ZHAQSUMIR_CH450_SDA);
 
-        load[2] = shapes[amount % 10] | (digit == 5 ? POINT : 0);
-        words[digit - 1] = word_of(load);
-        amount /= 10;
+        *samples++ = sda;
+        *samples++ = (unsigned char)(sda + ZHAQSUMIR_CH450_SCL);
     }
+    *samples++ = 0;
+    *samples++ = ZHAQSUMIR_CH450_SCL;
+    *samples = ZHAQSUMIR_CH450_IDLE;
+}
+
+/* Plays samples into the panel, with the code that the key has; gives how many times it was read. */
+static unsigned long play(unsigned char key, const unsigned char *samples, unsigned long count)
+{
+    unsigned long answer[ZHAQSUMIR_CH450_PLAY_ANSWER];
+
+    zhaqsumir_ch450_play(panel, key, samples, count, answer);
+    if (answer[ZHAQSUMIR_NUMBER] != 0)
+        printf("refused %lu, sample %lu\n", answer[ZHAQSUMIR_NUMBER], answer[ZHAQSUMIR_PLACE]);
+    return answer[ZHAQSUMIR_CH450_READS];
+}
+
+static void print_lit(void)
+{
+    unsigned long answer[ZHAQSUMIR_CH450_LIT_ANSWER];
+    int d;
+
+    zhaqsumir_ch450_lit(panel, answer);
+    printf("DIG7 to DIG2 light");
+    for (d = DIGITS - 1; d >= 0; d--)
+        printf(" %02lX", answer[ZHAQSUMIR_CH450_SEGMENTS + d]);
+    printf("\n");
 }
 
 int main(void)
 {
-    unsigned long panel[ZHAQSUMIR_CH450_PANEL] = ZHAQSUMIR_CH450_POWER_ON(0, 0, 0, 0, 0, 0);
+    static const unsigned char shapes[DIGITS] = { 0x3F, 0x6D, 0xEF, 0x66, 0x3F, 0x06 }; /* from the right: 0 5 9. 4 0 1 */
+    const unsigned long on[ZHAQSUMIR_CH450_COMMAND] = { ZHAQSUMIR_CH450_PARAMETERS, 0, 0, 1, 1 }; /* awake, KEYB and DISP on */
+    const unsigned long read_key[ZHAQSUMIR_CH450_COMMAND] = { ZHAQSUMIR_CH450_READ_KEY };
     unsigned short words[COMMANDS];
     unsigned char samples[COMMANDS * ZHAQSUMIR_CH450_COMMAND_SAMPLES];
-    unsigned long wrote[ZHAQSUMIR_WRITE_ANSWER], played[ZHAQSUMIR_CH450_PLAY_ANSWER], lit[ZHAQSUMIR_CH450_LIT_ANSWER], i;
+    unsigned long answer[ZHAQSUMIR_WRITE_ANSWER], d;
 
-    amount_words(123450, words);
-    zhaqsumir_ch450_write(words, COMMANDS, samples, sizeof samples, wrote);
-    if (wrote[ZHAQSUMIR_NUMBER] != 0) {
-        printf("refused %lu, word %lu\n", wrote[ZHAQSUMIR_NUMBER], wrote[ZHAQSUMIR_PLACE]);
+    for (d = 0; d < DIGITS; d++) {
+        const unsigned long load[ZHAQSUMIR_CH450_COMMAND] = { ZHAQSUMIR_CH450_LOAD_DIGIT, 2 + d, shapes[d] };
+
+        words[d] = word_of(load);
+    }
+    words[DIGITS] = word_of(on); /* last, so that nobody sees what power-on left */
+    zhaqsumir_ch450_write(words, COMMANDS, samples, sizeof samples, answer);
+    if (answer[ZHAQSUMIR_NUMBER] != 0) {
+        printf("refused %lu, command %lu\n", answer[ZHAQSUMIR_NUMBER], answer[ZHAQSUMIR_PLACE]);
         return 1;
     }
-    printf("samples: %lu\n", wrote[ZHAQSUMIR_SAMPLES_WRITTEN]);
+    play(CONFIRM, samples, answer[ZHAQSUMIR_SAMPLES_WRITTEN]);
+    print_lit();
 
-    zhaqsumir_ch450_play(panel, 0, samples, wrote[ZHAQSUMIR_SAMPLES_WRITTEN], played);
-    zhaqsumir_ch450_lit(panel, lit);
-    if (played[ZHAQSUMIR_NUMBER] != 0 || lit[ZHAQSUMIR_NUMBER] != 0)
-        return 1;
-    printf("lit:");
-    for (i = 0; i < ZHAQSUMIR_CH450_DIGITS; i++)
-        printf(" %02lX", lit[ZHAQSUMIR_CH450_LIT_SEGMENTS + i]);
-    printf("\n");
+    clock_read(word_of(read_key), samples);
+    printf("reads of code %02XH: %lu\n", CONFIRM, play(CONFIRM, samples, ZHAQSUMIR_CH450_COMMAND_SAMPLES));
     return 0;
 }

@@ -1,10 +1,10 @@
-/* The proved functions of Zhaqsumir for C: words, the writer, the finder, the replay of a capture and the tally over captures; and for
- * the CH450 panels of the old kiosks, on two wires: words, the writer, and the panel itself, played block by block.
+/* The proved functions of Zhaqsumir for C: words, the writer, the finder, the replay of a capture and the tally over captures; and, named
+ * zhaqsumir_ch450_, those for the one CH450 of an old kiosk: its words, its writer, and a panel that is played.
  *
  * Link target/staticlib/libzhaqsumir.a, which `rt staticlib zhaqsumir` makes, for x86-64 Linux. C11 or C++11; no other header is
  * needed. "Document 01" is the requirements, and its words are used: a word is a 12-bit command of a CH452, a sample is the three
- * wires at one moment, N is the number of chips in the chain, a row is one word for each chip. Of a CH450 a word is the two bytes of a
- * command, byte 1 * 256 + byte 2, and a sample is its two wires; what is for a CH450 alone has CH450 in its name.
+ * wires at one moment, N is the number of chips in the chain, a row is one word for each chip. A CH450 is alone on two wires: its word is
+ * the two bytes of a command, byte 1 high, and its sample is these two wires.
  *
  * Every function writes an array of numbers, the answer. Its first number is 0, or the number of a refusal; its second is the
  * place that the refusal names, or 0. Places count from 0 in what this call was given; only the lines of a text count from 1. What
@@ -12,14 +12,14 @@
  * several threads may call at once, each with its own memory; a tally or a panel that goes on from call to call is the caller's memory
  * too. Of the C library the archive needs memcpy alone.
  *
- * No value is a bad call: any word, level, N, field, sample, key code, number of a panel, count and byte of text is answered, at worst by
+ * No value is a bad call: any word, level, N, field, sample, count, key code, number of a panel and byte of text is answered, at worst by
  * a refusal. Bad calls are those that C allows and Rattle doesn't. They are the caller's: nothing tests them, and after one nothing that
  * is said here holds.
  *   - No pointer is null, not even where its length is 0 or where nothing is written.
  *   - A pointer is aligned for its type: an even address for words, a multiple of 8 for unsigned long.
  *   - A length counts elements, and its pointer has at least so many. An array has at least the size that stands here.
- *   - What a function writes (answer, out; of a tally chips, codes and largest; the panel that is played) overlaps nothing else that the
- *     call is given. What it only reads may overlap.
+ *   - What a function writes (answer, out; of a tally chips, codes and largest; panel, where it is played) overlaps nothing else that
+ *     the call is given. What it only reads may overlap.
  *   - All of it is the caller's own memory during the whole call, and can be read; what a function writes can be written. Bytes of
  *     answer and out that were never set are no fault. No thread, interrupt or device writes any of it, or reads what the function
  *     writes, before the call is over.
@@ -36,13 +36,16 @@ _Static_assert(sizeof(unsigned long) == 8, "unsigned long is 64 bits, uint64_t a
 _Static_assert(sizeof(void *) == 8, "an address is 64 bits");
 #endif
 
-/* A sample is a byte 0 to 7: DIN + 2 DCLK + 4 LOAD. Of a CH450 it is 0 to 3: SCL + 2 SDA. */
+/* A sample is a byte 0 to 7: DIN + 2 DCLK + 4 LOAD. */
 enum {
     ZHAQSUMIR_DIN = 1,
     ZHAQSUMIR_DCLK = 2,
     ZHAQSUMIR_LOAD = 4,
-    ZHAQSUMIR_IDLE = 7, /* all three high */
+    ZHAQSUMIR_IDLE = 7 /* all three high */
+};
 
+/* A sample of a CH450's two wires is a byte 0 to 3: SCL + 2 SDA. */
+enum {
     ZHAQSUMIR_CH450_SCL = 1,
     ZHAQSUMIR_CH450_SDA = 2,
     ZHAQSUMIR_CH450_IDLE = 3 /* both high */
@@ -57,31 +60,31 @@ enum {
 #define ZHAQSUMIR_REPLAY_ROOM (ZHAQSUMIR_MOST_CHIPS / 4 * 9 * ZHAQSUMIR_MOST_TEXT + 13)
 #define ZHAQSUMIR_TALLY_CHIPS (ZHAQSUMIR_MOST_CHIPS * 4) /* the counts of a tally, four for each chip */
 #define ZHAQSUMIR_TALLY_CODES 128                       /* and one for each code of seven bits */
-#define ZHAQSUMIR_CH450_MOST_COMMANDS 64                /* the commands that are written at once, at most */
-#define ZHAQSUMIR_CH450_COMMAND_SAMPLES 40ul            /* the samples of each */
-#define ZHAQSUMIR_CH450_MOST_KEY 127                    /* the code of a key, at most */
-#define ZHAQSUMIR_CH450_DIGITS 6                        /* DIG2 to DIG7 */
-#define ZHAQSUMIR_CH450_PANEL 14                        /* the numbers of a panel */
+#define ZHAQSUMIR_CH450_MOST_COMMANDS 64
+#define ZHAQSUMIR_CH450_COMMAND_SAMPLES 40ul            /* the samples of a CH450 command */
+#define ZHAQSUMIR_CH450_PANEL 14                        /* the numbers of a CH450's panel */
 
 /* The refusals, as document 01 numbers them. */
 enum {
     ZHAQSUMIR_NO_REFUSAL = 0,
-    ZHAQSUMIR_BAD_SAMPLE = 1,    /* a sample is above 7, of two wires above 3 (the lowest place is named) */
+    ZHAQSUMIR_BAD_SAMPLE = 1,    /* a sample is above 7, or of two wires above 3 (the lowest place is named) */
     ZHAQSUMIR_BAD_SCAN_CHIP = 2, /* a scan's chip is not below N (no function here gives it: inside text it is 10) */
     ZHAQSUMIR_BAD_CHIPS = 3,     /* N is not 1 to 8 */
     ZHAQSUMIR_PART_ROW = 4,      /* list length isn't a multiple of N */
-    ZHAQSUMIR_MANY_ROWS = 5,     /* more than 64 rows, of a CH450 64 commands */
+    ZHAQSUMIR_MANY_ROWS = 5,     /* more than 64 rows */
+    ZHAQSUMIR_MANY_COMMANDS = 5, /* more than 64 commands of a CH450 */
     ZHAQSUMIR_BAD_WORD = 6,      /* a word given to the writer or the decoder is unlisted or above 4,095 */
     ZHAQSUMIR_EARLY_KEYPAD = 7,  /* a system word with KEYB 1 for a chip that isn't the last */
     ZHAQSUMIR_SHORT_BUFFER = 8,  /* the buffer is shorter than the samples */
-    ZHAQSUMIR_BAD_FIELD = 9,     /* a command field is out of range; of a CH450 also: a key code is above 127, or a word for the writer is
-                                    neither parameters nor a digit (the lowest place is named) */
+    ZHAQSUMIR_BAD_FIELD = 9,     /* a command field is out of range */
+    ZHAQSUMIR_BAD_KEY = 9,       /* a key code is above 127 */
+    ZHAQSUMIR_BAD_COMMAND = 9,   /* a word of a CH450's list is neither of parameters nor of a digit (the lowest place is named) */
     ZHAQSUMIR_BAD_LINE = 10,     /* a line isn't of the form that zhaqsumir_replay asks for, the first missing included */
     ZHAQSUMIR_LONG_TEXT = 11,    /* text longer than 65,536 bytes */
     /* 12 is for values that are handed over. Document 01 has more of them, chip records and levels kept; no function here takes these */
     ZHAQSUMIR_BAD_LEVELS = 12,   /* the levels given are above 7 */
     ZHAQSUMIR_BAD_LARGEST = 12,  /* a tally's largest N is above 8 */
-    ZHAQSUMIR_BAD_PANEL = 12,    /* the numbers of a CH450's panel are such as no panel can hold */
+    ZHAQSUMIR_BAD_PANEL = 12,    /* the numbers are of no panel that a CH450 can have */
     ZHAQSUMIR_FULL_COUNT = 16    /* some count of a tally plus the line's number of samples and scans is above 2^64 - 1 */
 };
 
@@ -107,10 +110,9 @@ enum {
 
 /* The three kinds of command of a CH450, and their fields in order. */
 enum {
-    ZHAQSUMIR_CH450_PARAMETERS = 0,   /* SLEEP 0 or 1; INTENS 0 to 3: 4/4, 1/4, 2/4 of the time, 4/4 without the inner limit of the current;
-                                         KEYB 0 or 1, DISP 0 or 1 */
-    ZHAQSUMIR_CH450_LOAD_DIGIT = 1,   /* digit 2 to 7, byte 0 to 255: bits 0 to 6 are the segments A to G, bit 7 is the point */
-    ZHAQSUMIR_CH450_READ_KEY = 2
+    ZHAQSUMIR_CH450_PARAMETERS = 0,   /* SLEEP 0 or 1, INTENS 0 to 3, KEYB 0 or 1, DISP 0 or 1; byte 1 is 48H */
+    ZHAQSUMIR_CH450_LOAD_DIGIT = 1,   /* digit 2 to 7, byte 0 to 255; byte 1 is 64H for DIG2, and 2 more for each next digit */
+    ZHAQSUMIR_CH450_READ_KEY = 2      /* byte 1 is 4FH */
 };
 
 /* Places in the answers, and how many numbers an answer has. */
@@ -139,10 +141,12 @@ enum {
 
     ZHAQSUMIR_TALLY_ANSWER = 2,
 
-    ZHAQSUMIR_CH450_COMMAND = 5,      /* what a command of a CH450 takes: a kind and four fields; the answer is as of encode and write */
-    ZHAQSUMIR_CH450_KEYS_READ = 2,
+    ZHAQSUMIR_CH450_COMMAND = 5,      /* what a command of a CH450 takes: a kind and four fields; its answers are as above */
+
+    ZHAQSUMIR_CH450_READS = 2,
     ZHAQSUMIR_CH450_PLAY_ANSWER = 3,
-    ZHAQSUMIR_CH450_LIT_SEGMENTS = 2, /* six of them, DIG2 first */
+
+    ZHAQSUMIR_CH450_SEGMENTS = 2,     /* six of them, DIG2 first */
     ZHAQSUMIR_CH450_LIT_ANSWER = 8
 };
 
@@ -154,23 +158,24 @@ enum {
     ZHAQSUMIR_CLEARED = 3             /* interrupts cleared by reset, or by system parameters with KEYB 0 */
 };
 
-/* The 14 numbers of a CH450's panel. A caller sets them once, by ZHAQSUMIR_CH450_POWER_ON, and may look at them. */
+/* The 14 numbers of a CH450's panel. */
 enum {
-    ZHAQSUMIR_CH450_LEVELS = 0,       /* the sample before: 0 to 3 */
-    ZHAQSUMIR_CH450_RUNNING = 1,      /* 1 while a transfer runs: between a start and the next stop */
-    ZHAQSUMIR_CH450_RISES = 2,        /* the rises of SCL since its start, 20 for any more than 19; 0 while none runs */
-    ZHAQSUMIR_CH450_BITS = 3,         /* SDA at each of them, the last one in bit 0, 19 bits at most; 0 while none runs */
-    ZHAQSUMIR_CH450_SLEEP = 4,        /* the parameters, in the ranges above */
-    ZHAQSUMIR_CH450_INTENS = 5,
-    ZHAQSUMIR_CH450_KEYB = 6,
-    ZHAQSUMIR_CH450_DISP = 7,
-    ZHAQSUMIR_CH450_DIG2 = 8          /* the data bytes of DIG2 to DIG7 */
+    ZHAQSUMIR_CH450_LEVELS = 0,       /* the sample last played */
+    ZHAQSUMIR_CH450_RUNNING = 1,      /* 1 while a transfer runs, from its start on; after a stop 0 */
+    ZHAQSUMIR_CH450_RISES = 2,        /* SCL rises since its start, 20 for any number above 19; 0 where none runs */
+    ZHAQSUMIR_CH450_BITS = 3,         /* SDA at these rises, the last one in bit 0, of more than 19 the last 19; 0 where none runs */
+    ZHAQSUMIR_CH450_SLEEP = 4,        /* 0 or 1; this and the next three are the parameters */
+    ZHAQSUMIR_CH450_INTENS = 5,       /* 0 to 3 */
+    ZHAQSUMIR_CH450_KEYB = 6,         /* 0 or 1 */
+    ZHAQSUMIR_CH450_DISP = 7,         /* 0 or 1 */
+    ZHAQSUMIR_CH450_DIGITS = 8        /* the data bytes of DIG2 to DIG7, six of them */
 };
 
-/* A panel at power-on, for an array of ZHAQSUMIR_CH450_PANEL numbers: idle wires, awake, every parameter 0. The sheet leaves the data
- * bytes open: they are the caller's. */
+/* The numbers of a panel at power-on: the lines idle, no transfer, every parameter 0, and these bytes in DIG2 to DIG7. The chip's sheet
+ * doesn't say which bytes these are.
+ *     unsigned long panel[ZHAQSUMIR_CH450_PANEL] = ZHAQSUMIR_CH450_POWER_ON(0, 0, 0, 0, 0, 0); */
 #define ZHAQSUMIR_CH450_POWER_ON(dig2, dig3, dig4, dig5, dig6, dig7) \
-    { ZHAQSUMIR_CH450_IDLE, 0, 0, 0, 0, 0, 0, 0, (dig2), (dig3), (dig4), (dig5), (dig6), (dig7) }
+    { ZHAQSUMIR_CH450_IDLE, 0, 0, 0, 0, 0, 0, 0, dig2, dig3, dig4, dig5, dig6, dig7 }
 
 /* Which command a word is.
  * answer: the refusal, 0, the kind, its five fields; a field that the kind lacks is 0.
@@ -241,44 +246,44 @@ void zhaqsumir_replay(const unsigned char *text, unsigned long length, unsigned 
 void zhaqsumir_tally(const unsigned char *text, unsigned long length, unsigned long chips[ZHAQSUMIR_TALLY_CHIPS],
                      unsigned long codes[ZHAQSUMIR_TALLY_CODES], unsigned long *largest, unsigned long answer[2]);
 
-/* The word of a CH450 command: byte 1 * 256 + byte 2, with 0 for the bits that are ignored. Byte 1 is 48H for parameters, 64H, 66H .. 6EH
- * for DIG2 to DIG7, 4FH for reading the key.
+/* The word of a CH450 command: byte 1 times 256, plus byte 2, with 0 for the three bits of parameters that are ignored, and for byte 2 of
+ * a read.
  * command: the kind and its four fields; fields that the kind lacks are not looked at. It is left as it is.
  * answer: the refusal, 0, the word.
- * Refused: BAD_FIELD (9) where the kind is above 2 or a field is out of the range above, a bit above 1 included; the word is
- * then 0. */
-void zhaqsumir_ch450_encode(const unsigned long command[5], unsigned long answer[3]);
+ * Refused: BAD_FIELD (9) where the kind is above 2 or a field is out of the range above; the word is then 0. */
+void zhaqsumir_ch450_encode(const unsigned long command[ZHAQSUMIR_CH450_COMMAND], unsigned long answer[3]);
 
-/* The samples that send commands to a CH450 whose wires are idle; they are idle again at the end.
- * words: count of them, 0 to 64, each of parameters or of a digit, by its byte 1. They are left as they are.
- * out, room: the buffer and how many bytes it has. A command takes ZHAQSUMIR_CH450_COMMAND_SAMPLES bytes, one command after another
- * from the front of out. Bytes past the written ones keep what they hold.
+/* The samples that send commands to a CH450, from idle lines to idle lines.
+ * words: count of them, 0 to 64, of parameters and of digits: byte 1 is 48H, or 64H to 6EH and even. Byte 2 is sent as it is. They are
+ * left as they are.
+ * out, room: the buffer and how many bytes it has. A command takes ZHAQSUMIR_CH450_COMMAND_SAMPLES bytes, one command after another from
+ * the front of out. Bytes past the written ones keep what they hold.
  * answer: the refusal, the place, the samples written.
- * Refused, where several hold the first of them: MANY_ROWS (5); BAD_FIELD (9), with the lowest place in words of a word that is neither
- * parameters nor a digit, one that reads the key included; SHORT_BUFFER (8). Then out is left whole as it was, and 0 samples are
- * written. */
+ * Refused, where several hold the first of them: MANY_COMMANDS (5); BAD_COMMAND (9), with the place of the first word that is of
+ * neither, a read too; SHORT_BUFFER (8). Then out is left whole as it was, and 0 samples are written. */
 void zhaqsumir_ch450_write(const unsigned short *words, unsigned long count, unsigned char *out, unsigned long room,
                            unsigned long answer[3]);
 
-/* What a block of samples makes a CH450 do. SDA falling while SCL stays high starts a transfer, rising while it stays high ends it; where
- * both change there is neither. A transfer with exactly 19 rises of SCL is obeyed at its end: 18 bits, high first, byte 1, acknowledge,
- * byte 2, acknowledge, and the rise before the end. Any other number of rises, and a byte 1 that is no command, have no effect. Any
- * obeyed command first clears SLEEP.
- * panel: its numbers before the block; they are read, and hold those after it. So one call after another plays samples block by block.
- * key: the code that a read is answered with, 0 to 127. samples: count of them, left as they are.
- * answer: the refusal, the place, how many times the key was read.
- * Refused, where several hold the first of them: BAD_PANEL (12) where the panel's numbers are such as no panel can hold: a number is above
- * its range; no transfer runs, and rises or bits aren't 0; or one runs, and there are more bits than rises, or SCL is high and SDA is
- * not the last bit (not low, before any). BAD_FIELD (9) where key is above 127. BAD_SAMPLE (1), with the lowest place of a sample above
- * 3, anywhere in the block. Then all of the panel's numbers stay as they were, and no read is counted. */
+/* Plays a block of samples into a panel, which goes on from what the caller hands over: one call after another, each with the next
+ * samples, wherever they are cut, leads to the same panel as one call with all of them, where none is refused.
+ * panel: its numbers, as named above. They are read, and hold the panel after the block.
+ * key: the code that the key has, which each read in this block is answered with, whatever SDA was in its byte 2.
+ * samples: count of them, left as they are. SDA falling while SCL stays high is a start, and rising a stop. At a stop after exactly 19 SCL
+ * rises since its start the panel obeys byte 1 and byte 2; any parameters, digit or read first clears SLEEP, and any other byte 1 does
+ * nothing at all. No other sample changes a parameter or a digit.
+ * answer: the refusal, the place, how many reads were obeyed.
+ * Refused, where several hold the first of them: BAD_PANEL (12), where no samples from power-on, whatever digits that left, lead to these
+ * numbers; BAD_KEY (9); BAD_SAMPLE (1), with the lowest place of a sample above 3, anywhere in the block. Then panel is left as it was,
+ * and no read is reported. */
 void zhaqsumir_ch450_play(unsigned long panel[ZHAQSUMIR_CH450_PANEL], unsigned char key, const unsigned char *samples,
-                          unsigned long count, unsigned long answer[3]);
+                          unsigned long count, unsigned long answer[ZHAQSUMIR_CH450_PLAY_ANSWER]);
 
-/* The segments that a CH450 lights: none while it sleeps or DISP is 0, else the data bytes.
- * panel: its numbers. They are left as they are.
- * answer: the refusal, 0, the six bytes, DIG2 first.
- * Refused: BAD_PANEL (12), as for zhaqsumir_ch450_play; the six bytes are then 0. */
-void zhaqsumir_ch450_lit(const unsigned long panel[ZHAQSUMIR_CH450_PANEL], unsigned long answer[8]);
+/* The segments that a panel lights: none while it sleeps or DISP is 0, else the data bytes, bit 0 segment A to bit 6 segment G, bit 7 the
+ * point.
+ * panel: its numbers, left as they are.
+ * answer: the refusal, 0, the bytes of DIG2 to DIG7.
+ * Refused: BAD_PANEL (12), as for zhaqsumir_ch450_play; the bytes are then 0. */
+void zhaqsumir_ch450_lit(const unsigned long panel[ZHAQSUMIR_CH450_PANEL], unsigned long answer[ZHAQSUMIR_CH450_LIT_ANSWER]);
 
 #ifdef __cplusplus
 }

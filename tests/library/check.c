@@ -37,9 +37,9 @@ unsigned long one_of(unsigned long count, const unsigned long values[])
 
 unsigned long near_a_limit(void)
 {
-    static const unsigned long limits[] = { 0, 1, 2, 3, 4, 7, 8, 9, 15, 16, 62, 63, 64, 65, 66, 126, 127, 128, 129, 254, 255, 256, 257 };
+    static const unsigned long limits[] = { 0, 1, 2, 7, 8, 9, 15, 16, 62, 63, 64, 65, 66, 126, 127, 128, 129, 254, 255, 256, 257 };
     static const unsigned long high[] = { 1ul << 8, 1ul << 16, 1ul << 31, 1ul << 32, 1ul << 63, ~0ul << 8, ~0ul << 16, ~0ul << 32 };
-    unsigned long near = one_of(23, limits);
+    unsigned long near = one_of(21, limits);
 
     switch (below(16)) {
     case 0:

@@ -9,9 +9,11 @@ unsigned long any(void);                                /* any 64 bits */
 unsigned long below(unsigned long bound);               /* 0 to bound - 1 */
 int once_in(unsigned long times);                       /* true once in so many times */
 unsigned long one_of(unsigned long count, const unsigned long values[]);
-unsigned long near_a_limit(void);                       /* at or about a limit of some field, or small by its low bits alone */
+unsigned long near_a_limit(void);                       /* of some field, or one that only its low bits would make small */
 unsigned long place_in(unsigned long count);            /* of a list: the first, the last or any */
-unsigned long room_for(unsigned long samples, unsigned long most); /* exact, one short, a little or much longer, shorter, or none */
+
+/* A buffer's size: exact, one short, a little or much longer (up to the most), shorter, or none at all. */
+unsigned long room_for(unsigned long samples, unsigned long most);
 
 /* ---- what is lent to be read: it ends where no byte can be read ---- */
 
@@ -69,11 +71,6 @@ void must(int holds, const char *what);                 /* a fault of the test i
 
 enum { MOST_TEXT = 81920 };
 const unsigned char *random_text(unsigned long *size);
-
-/* ---- byte 1 of a CH450's command: one that the writer takes, and another, half of them 4FH ---- */
-
-unsigned long written_byte1(void);
-unsigned long other_byte1(void);
 
 /* ---- the parts of the test ---- */
 

@@ -1,12 +1,12 @@
-/* Compares the library that C links, libzhaqsumir.a, with the plain twin, which was written from documents 01 and 02: the boundary between
+/* Compares the library that C links, libzhaqsumir.a, with the plain twin, which was written from document 01: the boundary between
  * the two languages, which no proof covers.
  *
  *     library COUNT SEED [TEXT GOT]...
  *
- * Decode, encode, the writer, the finder and the four functions for a CH450 get COUNT random inputs each, and the replay and the tally a
- * hundredth as many. Each TEXT is replayed, and what the library makes of it is written to the file GOT. What is lent to be written lies
- * between guards and is compared whole; what is lent to be read ends where no byte can be read. The exit status is 0 where all is the
- * same and every refusal that a function can give was given. */
+ * Decode, encode, the writer and the finder get COUNT random inputs each, so do the four functions for a CH450, and the replay and the
+ * tally a hundredth as many. Each TEXT is replayed, and what the library makes of it is written to the file GOT. What is lent to be
+ * written lies between guards and is compared whole; what is lent to be read ends where no byte can be read. The exit status is 0 where
+ * all is the same and every refusal that a function can give was given. */
 #include "check.h"
 #include "libc.h"
 
