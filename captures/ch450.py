@@ -216,8 +216,8 @@ TEXTS["empty"] = ("", ["1F0A00000001"], ["1F0A00000001"])
 
 
 def longest():
-    """65,536 bytes with as many commands as fit: 782, in turn parameters, six digits and a read. A line of k samples takes 2k + 3 bytes, so after
-    the first line's 19 there is room for 977 lines of 32 samples, one of 25 and one of 1: 31,290 samples, the last ten idle."""
+    """65,536 bytes with as many commands as fit: 782, in turn parameters, six digits and a read. A line of k samples takes 2k + 3 bytes,
+    so after the first line's 19 there is room for 977 lines of 32 samples, one of 25 and one of 1: 31,290 samples, the last ten idle."""
     samples = []
     for number in range(782):
         place = number % 8

@@ -105,7 +105,8 @@ def ch450_meaning(first, second):
     """What the two bytes of an obeyed command say, by sheet 003; bits 4 to 2 of parameters are ignored."""
     if first == 0x48:
         intens = second >> 5 & 3
-        return "system parameters: SLEEP %d, INTENS %d (%s), %s" % (second >> 7, intens, INTENSITIES[intens], bits(second & 3, "KEYB", "DISP"))
+        rest = bits(second & 3, "KEYB", "DISP")
+        return "system parameters: SLEEP %d, INTENS %d (%s), %s" % (second >> 7, intens, INTENSITIES[intens], rest)
     if first == 0x4F:
         return "read key (byte 2 on the wire: %02XH)" % second
     return "load DIG%d with %02XH" % (first >> 1 & 7, second)

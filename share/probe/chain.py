@@ -1,4 +1,5 @@
-"""The text of a chain of CH452 chips, on three wires, and what can be seen on the way: rows for more chips, and chips without a reset."""
+"""The text of a chain of CH452 chips, on three wires, and what can be seen on the way: no word at all, rows for more chips, and chips
+without a reset."""
 from .refusal import Refused, joined
 from .text import Text
 
@@ -34,6 +35,10 @@ class Chain(Text):
         """00 01 N."""
         return "0001%02X" % self.chips
 
+    def hint(self, names):
+        """The names of a CH450's two wires."""
+        return " (a CH450's two wires: --two-wires)" if {b"SCL", b"SDA"} <= set(names) else ""
+
     def edge(self, sample):
         """Clocks in a bit at a DCLK rise, and looks at the words at a LOAD rise."""
         rises = sample & ~self.level
@@ -62,6 +67,8 @@ class Chain(Text):
     def remarks(self):
         """Rows for more chips than are assumed are refused where the user didn't say how many."""
         lines = []
+        if self.kept and not self.stretches:
+            lines.append("LOAD never rises, so no word is obeyed: are the wires exchanged?")
         rows = self.rows_for()
         if rows > self.chips:
             why = "always %d clocks come between LOAD rises, as for %d chips" % (WORD * rows, rows)

@@ -43,7 +43,7 @@ def read(source, text, names):
                 raise Refused("the sigrok session is of a version that isn't known")
             device = settings(archive.read("metadata"))
             parts = parts_of(device.get("capturefile", "logic-1"), files)
-            width, bits = places(device, names)
+            width, bits = places(device, text, names)
             source.progress = Progress(sum(files[part].file_size for part in parts))
             raw.read(Samples(archive, parts, source.progress), text, width, bits, True)
     except (zipfile.BadZipFile, EOFError, zlib.error, NotImplementedError, RuntimeError, OSError, ValueError):
@@ -70,7 +70,7 @@ def parts_of(name, files):
     return ["%s-%d" % (name, number) for number in numbers]
 
 
-def places(device, names):
+def places(device, text, names):
     """How many bytes a sample takes, and the bits of the wires."""
     channels = {}
     for key, value in device.items():
@@ -84,8 +84,8 @@ def places(device, names):
     for wire, name in names.items():
         found = channels.get(name.decode("utf-8", "replace"), [])
         if len(found) != 1:
-            number = "more than one channel" if found else "no channel"
-            raise Refused("%s is named %s; there are: %s" % (number, shown(name), listed(channels)))
+            number, hint = ("more than one channel", "") if found else ("no channel", text.hint(map(str.encode, channels)))
+            raise Refused("%s is named %s; there are: %s%s" % (number, shown(name), listed(channels), hint))
         bits[wire] = found[0]
         if bits[wire] >= 8 * int(width):
             raise Refused("channel %s is no bit of a sample of %s bytes" % (shown(name), width))

@@ -113,6 +113,7 @@ class Table:
             why = "no column is named %s; the header has: %s"
             if b"logic" in fields:
                 why += "; columns may be named by their numbers from 1, as in --%s 1" % next(iter(self.text.wires))
+            why += self.text.hint(fields + (self.channels or []))
         raise Refused(why % (shown(names[0]), listed(fields)), self.line)
 
     # ---- the rows ----

@@ -19,6 +19,7 @@ class Text:
         first()     the first line
         edge()      looks at a sample that is kept; `level` still is the one before it
         remarks()   what is to be said of the recording, in lines
+        hint()      the end of the message that a wire is missing, if there is more to say
     """
 
     def __init__(self):
@@ -30,6 +31,10 @@ class Text:
     def options(cls, ending=""):
         """The wires' options, for a message."""
         return joined(["--%s%s" % (name, ending) for name in cls.wires])
+
+    def hint(self, names):
+        """What else the recording may be, by the names that it has."""
+        return ""
 
     def take(self, sample, place):
         """One sample."""

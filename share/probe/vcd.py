@@ -87,7 +87,7 @@ def line_of(mark):
 class Definitions:
     """What the definitions say: every identifier with its bits, and of each identifier that is looked at, which bit is which wire."""
 
-    def __init__(self, words, names):
+    def __init__(self, words, text, names):
         self.names = names
         self.sizes = {}
         self.seen = []
@@ -114,7 +114,8 @@ class Definitions:
         self.wires = {}         # identifier to (bit from the right, wire)
         for wire in names:
             if not found[wire]:
-                raise Refused("no wire is named %s; there are: %s" % (shown(names[wire]), listed(self.seen)), line_of(mark))
+                say = shown(names[wire]), listed(self.seen), text.hint(self.seen)
+                raise Refused("no wire is named %s; there are: %s%s" % say, line_of(mark))
             if len(found[wire]) > 1:
                 say = "more than one wire is named %s; name its scope too, as in scope.%s"
                 raise Refused(say % ((shown(names[wire]),) * 2), line_of(mark))
@@ -307,4 +308,4 @@ class Changes:
 def read(source, text, names):
     """Reads a recording; `names` has the wires' names."""
     words = Words(source)
-    Changes(words, Definitions(words, names), text).read()
+    Changes(words, Definitions(words, text, names), text).read()

@@ -14,7 +14,8 @@ use Rattle.ch450.specs.Edges.{completes, firstByte, secondByte}
 use Rattle.ch450.specs.Commands.{meaningOf, isRead}
 use Rattle.ch450.specs.Samples.{steppedPanel, played, readsIn}
 
--- the panel after it, the place past its last sample, given the first one's, and the transfer's bytes; without such a stop all samples are played
+-- the panel after it, the place past its last sample, given the first one's, and the transfer's bytes; without such a stop all samples
+-- are played
 unfoldable pub stretchFrom : ℕ → List ℕ → Panel → Stretch
 stretchFrom place [] p = record { panel = p; stop = place; transfer = Nothing }
 stretchFrom place (s ∷ ss) p =

@@ -1,4 +1,5 @@
--- Samples that repeat the levels before them may be left out of a text: what is written stays the same.
+-- Of samples that are played one after another, those that repeat the levels before them may be left out: what is written stays the
+-- same. It is said of samples, and not of the lines of a text in which they stand.
 --     kept-writes      samples without those that repeat write the same
 -- Assumes nothing.
 use mathlib.Core.Path.{_≡_, refl, ap, ap₂, sym, _∙_}
