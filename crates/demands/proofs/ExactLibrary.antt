@@ -1,5 +1,7 @@
 -- Demand 1, the exact table, for the library that C links: each answer says by its first two numbers what the table says.
+--     told-so                                                                     an answer by one test keeps to a table of one row
 --     numbers-exact                                                               a command that is given as numbers keeps to its table
+--     none-append, none-each                                                      no row of two tables, of the rows of a list, has a number
 --     says-exactly                                                                what is told exactly is said exactly
 --     decode-says, encode-says, write-says, find-says, replay-says, tally-says    the six functions
 -- Assumes nothing.
@@ -53,23 +55,23 @@ above-tests (most ∷ mosts) (field ∷ fields) = both-tests (leb-tests field mo
 numbers-tests : (kind : ℕ) (fields : List ℕ) → Tests (NumbersOutOfRange kind fields) (inRange kind fields)
 numbers-tests kind fields = both-tests (leb-tests kind 15) (above-tests (getD ranges kind []) fields)
 
-told-so : {t : Told ℕ} {test : Bool} (kind : ℕ) (fields : List ℕ) → Tells t test → Tests (NumbersOutOfRange kind fields) test → ByTable t (numbersTable kind fields)
-told-so kind fields (a-word w) (passed n) = later n (answered tt)
-told-so kind fields nine (failed y) = here y refl
+pub told-so : {t : Told ℕ} {test : Bool} {G : Type 0} → Tells t test → Tests G test → ByTable t (row 9 G ∷ [])
+told-so (a-word w) (passed n) = later n (answered tt)
+told-so nine (failed y) = here y refl
 
 pub numbers-exact : (kind a b c d e : ℕ)
     → Exactly (encodedBy (commandFrom kind a b c d e)) (numbersTable kind (a ∷ b ∷ c ∷ d ∷ e ∷ []))
 numbers-exact kind a b c d e =
     let fields = a ∷ b ∷ c ∷ d ∷ e ∷ [] in
-    by-table (told-so kind fields (encode-ranges a b c d e kind) (numbers-tests kind fields))
+    by-table (told-so (encode-ranges a b c d e kind) (numbers-tests kind fields))
 
 -- ---- no refusal has the number 0
 
-none-append : (a b : List Row) (m : ℕ) → NoneOf m a → NoneOf m b → NoneOf m (a ++ b)
+pub none-append : (a b : List Row) (m : ℕ) → NoneOf m a → NoneOf m b → NoneOf m (a ++ b)
 none-append [] b m p q = q
 none-append (r ∷ a) b m p q = (p .0, none-append a b m (p .1) q)
 
-none-each {ℓ} : {X : Type ℓ} (rows : ℕ → X → List Row) (m : ℕ) → ((k : ℕ) (x : X) → NoneOf m (rows k x)) → (place : ℕ) (xs : List X)
+pub none-each {ℓ} : {X : Type ℓ} (rows : ℕ → X → List Row) (m : ℕ) → ((k : ℕ) (x : X) → NoneOf m (rows k x)) → (place : ℕ) (xs : List X)
     → NoneOf m (each rows place xs)
 none-each rows m f place [] = tt
 none-each rows m f place (x ∷ xs) = none-append (rows place x) (each rows (suc place) xs) m (f place x) (none-each rows m f (suc place) xs)

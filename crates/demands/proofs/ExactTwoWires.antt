@@ -3,6 +3,7 @@
 --     ch450-encode-exact, ch450-apply-exact, ch450-segments-exact      ch450, ch450::commands
 --     ch450-sample-exact, ch450-play-exact                             ch450::play
 --     ch450-write-exact                                                ch450::writer
+--     lit-by-table, play-by-table                                      row by row, for a panel that is lent as numbers
 --     ch450-play-lowest                                                1, of `play`: the lowest place of a sample above 3
 --     ch450-write-nine                                                 9, of `write`: the lowest place of such a word
 --     ch450-write-eight                                                8, of `write`: every word is accepted, and the buffer is short
@@ -40,9 +41,12 @@ unfolding appliedOf
 ch450-apply-exact p command =
     by-table (told-by (valid p) _ _ (tested _ (panel-tests p) (told-by (legal command) _ _ (tested _ (field-tests command) (answered tt)))))
 
-pub ch450-segments-exact : (p : Panel) → Exactly (segmentsOf p .told) (ch450LitTable p)
+pub lit-by-table : (p : Panel) → ByTable (segmentsOf p .told) (ch450LitTable p)
 unfolding segmentsOf
-ch450-segments-exact p = by-table (told-by (valid p) _ _ (tested _ (panel-tests p) (answered tt)))
+lit-by-table p = told-by (valid p) _ _ (tested _ (panel-tests p) (answered tt))
+
+pub ch450-segments-exact : (p : Panel) → Exactly (segmentsOf p .told) (ch450LitTable p)
+ch450-segments-exact p = by-table (lit-by-table p)
 
 -- ---- samples
 
@@ -62,11 +66,13 @@ ch450-sample-exact p key sample =
     by-table
     (told-after (testedOf p key) _ _ _ (first-tests p key) (told-by (leb sample 3) _ _ (tested _ (leb-tests sample 3) (answered tt))))
 
-pub ch450-play-exact : (p : Panel) (key : ℕ) (samples : List ℕ) → Exactly (playedOf p key samples .told) (ch450PlayTable p key samples)
+pub play-by-table : (p : Panel) (key : ℕ) (samples : List ℕ) → ByTable (playedOf p key samples .told) (ch450PlayTable p key samples)
 unfolding playedOf
-ch450-play-exact p key samples =
-    by-table
-    (told-after (testedOf p key) _ _ (above3Rows samples) (first-tests p key) (told-only (checkedFrom 0 samples) _ _ _ (sample-tests 0 samples)))
+play-by-table p key samples =
+    told-after (testedOf p key) _ _ (above3Rows samples) (first-tests p key) (told-only (checkedFrom 0 samples) _ _ _ (sample-tests 0 samples))
+
+pub ch450-play-exact : (p : Panel) (key : ℕ) (samples : List ℕ) → Exactly (playedOf p key samples .told) (ch450PlayTable p key samples)
+ch450-play-exact p key samples = by-table (play-by-table p key samples)
 
 -- ---- the writer
 

@@ -35,6 +35,7 @@ pub mod Tallied
 pub mod ExactTally
 pub mod PanelTests
 pub mod ExactTwoWires
+pub mod ExactPanels
 pub mod WiresForms
 pub mod ExactWires
 pub mod WiresUnchanged

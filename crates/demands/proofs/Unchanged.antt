@@ -2,6 +2,7 @@
 --     by-pick, by-after             a choice, and a test before it, hand back what their sides do
 --     front-of, rest-of             what is laid at an array's front, and the rest of it
 --     text-kept                     what a refused text leaves
+--     alone-zero, answer-as         an answer of one number, refused; an answer that is as a contract says
 --     refusals-change-nothing       the theorem
 -- Assumes nothing.
 use mathlib.Core.Path.{_≡_, refl, ap, sym, subst, _∙_}
@@ -83,7 +84,7 @@ decode-zeros : (t : Told Command) → Refuses (decodeBy t) (0 ∷ 0 ∷ 0 ∷ 0 
 decode-zeros (done c) number e = let z : 0 ≡ suc number = e in absurd (omega arith)
 decode-zeros (refused m place) number e = refl
 
-alone-zero : (t : Told ℕ) → Refuses (alone t) (0 ∷ [])
+pub alone-zero : (t : Told ℕ) → Refuses (alone t) (0 ∷ [])
 alone-zero (done n) number e = let z : 0 ≡ suc number = e in absurd (omega arith)
 alone-zero (refused m place) number e = refl
 
@@ -91,7 +92,7 @@ find-zeros : (o : Outcome Report (Unit {0})) → HandsBack o noReport → Refuse
 find-zeros o back number e =
     ap (λ (r : Report). drop 2 (findBy (o .told) (r .rise) (r .passed))) (back (suc number) (placeIn (o .told)) (is-refusal (o .told) e))
 
-answer-as : {answer numbers zeros : List ℕ} → answer ≡ numbers → Refuses numbers zeros → Refuses answer zeros
+pub answer-as : {answer numbers zeros : List ℕ} → answer ≡ numbers → Refuses numbers zeros → Refuses answer zeros
 answer-as {zeros = zeros} e = subst (λ x. Refuses x zeros) (sym e)
 
 -- ---- the entries

@@ -10,6 +10,7 @@ pub mod Texts
 pub mod Tallies
 pub mod Unchanged
 pub mod TwoWires
+pub mod PanelNumbers
 pub mod WiresTexts
 pub mod WiresUnchanged
 pub mod Direct

@@ -1,6 +1,7 @@
 -- Document 02, C-15: each refusal's "given exactly when" for the entries of one CH450, as a statement about what an entry was given, and
 -- the table of each entry, its refusals in C-15's order: 12, 9, 1 of the model; 5, 9, 8 of the writer. proofs/ExactTwoWires.antt proves
--- that each entry keeps to its table; the table of a text of two wires is in specs/WiresTexts.antt.
+-- that each entry keeps to its table; the table of a text of two wires is in specs/WiresTexts.antt, those of the library's functions in
+-- specs/PanelNumbers.antt.
 -- Assumes nothing.
 use mathlib.Core.Path.{_≡_}
 use mathlib.Core.Bool.{true, false}
