@@ -19,10 +19,10 @@ static unsigned short word_of(const unsigned long command[ZHAQSUMIR_CH450_COMMAN
     return answer[ZHAQSUMIR_NUMBER] == 0 ? (unsigned short)answer[ZHAQSUMIR_ENCODED_WORD] : 0xFFFF;
 }
 
-/* The samples of a read, which the till clocks itself: at byte 2 SDA is the chip's. */
+/* The samples of a read, which the till clocks itself: at byte 2 it lets SDA go, high, for the chip drives it. */
 static void clock_read(unsigned short word, unsigned char samples[ZHAQSUMIR_CH450_COMMAND_SAMPLES])
 {
-    unsigned long bits = (word & 0xFF00ul) << 2 | 1 << 9 | (word & 0xFFul) << 1 | 1; /* acknowledges are 1 */
+    unsigned long bits = (word & 0xFF00ul) << 2 | 1 << 9 | 0xFFul << 1 | 1; /* acknowledges are 1 */
     int place;
 
     *samples++ = ZHAQSUMIR_CH450_SCL;
@@ -37,17 +37,17 @@ static void clock_read(unsigned short word, unsigned char samples[ZHAQSUMIR_CH45
     *samples = ZHAQSUMIR_CH450_IDLE;
 }
 
-/* Plays samples into the panel, with the code that the key has; gives how many times it was read. */
+/* Plays samples into the panel, with the code that the key has; gives how many times it was read. From power-on on, samples of 0 to 3 and
+ * this code are never refused. */
 static unsigned long play(unsigned char key, const unsigned char *samples, unsigned long count)
 {
     unsigned long answer[ZHAQSUMIR_CH450_PLAY_ANSWER];
 
     zhaqsumir_ch450_play(panel, key, samples, count, answer);
-    if (answer[ZHAQSUMIR_NUMBER] != 0)
-        printf("refused %lu, sample %lu\n", answer[ZHAQSUMIR_NUMBER], answer[ZHAQSUMIR_PLACE]);
     return answer[ZHAQSUMIR_CH450_READS];
 }
 
+/* What the panel lights; a panel that play left isn't refused. */
 static void print_lit(void)
 {
     unsigned long answer[ZHAQSUMIR_CH450_LIT_ANSWER];

@@ -81,7 +81,7 @@ enum {
     ZHAQSUMIR_BAD_COMMAND = 9,   /* a word of a CH450's list is neither of parameters nor of a digit (the lowest place is named) */
     ZHAQSUMIR_BAD_LINE = 10,     /* a line isn't of the form that zhaqsumir_replay asks for, the first missing included */
     ZHAQSUMIR_LONG_TEXT = 11,    /* text longer than 65,536 bytes */
-    /* 12 is for values that are handed over. Document 01 has more of them, chip records and levels kept; no function here takes these */
+    /* 12 is for values that are handed over. Document 01 has more of them, records and kept levels of CH452 chips; no function here takes those */
     ZHAQSUMIR_BAD_LEVELS = 12,   /* the levels given are above 7 */
     ZHAQSUMIR_BAD_LARGEST = 12,  /* a tally's largest N is above 8 */
     ZHAQSUMIR_BAD_PANEL = 12,    /* the numbers are of no panel that a CH450 can have */
@@ -247,7 +247,7 @@ void zhaqsumir_tally(const unsigned char *text, unsigned long length, unsigned l
                      unsigned long codes[ZHAQSUMIR_TALLY_CODES], unsigned long *largest, unsigned long answer[2]);
 
 /* The word of a CH450 command: byte 1 times 256, plus byte 2, with 0 for the three bits of parameters that are ignored, and for byte 2 of
- * a read.
+ * a read (on the wire SDA is let go there: all ones).
  * command: the kind and its four fields; fields that the kind lacks are not looked at. It is left as it is.
  * answer: the refusal, 0, the word.
  * Refused: BAD_FIELD (9) where the kind is above 2 or a field is out of the range above; the word is then 0. */
@@ -265,12 +265,14 @@ void zhaqsumir_ch450_write(const unsigned short *words, unsigned long count, uns
                            unsigned long answer[3]);
 
 /* Plays a block of samples into a panel, which goes on from what the caller hands over: one call after another, each with the next
- * samples, wherever they are cut, leads to the same panel as one call with all of them, where none is refused.
+ * samples, wherever they are cut, leads to the same panel as one call with all of them, where none is refused, and the reads add up.
  * panel: its numbers, as named above. They are read, and hold the panel after the block.
  * key: the code that the key has, which each read in this block is answered with, whatever SDA was in its byte 2.
- * samples: count of them, left as they are. SDA falling while SCL stays high is a start, and rising a stop. At a stop after exactly 19 SCL
- * rises since its start the panel obeys byte 1 and byte 2; any parameters, digit or read first clears SLEEP, and any other byte 1 does
- * nothing at all. No other sample changes a parameter or a digit.
+ * samples: count of them, left as they are. SDA falling while SCL stays high is a start, and rising a stop; where both lines change in one
+ * sample there is a clock edge, and neither. The SCL rises since a start carry byte 1, an acknowledge, byte 2 and an acknowledge, high bit
+ * first, each SDA of the sample in which SCL rises, and last the rise for the stop; acknowledges aren't looked at. At a stop after exactly
+ * 19 rises since the last start the panel obeys the two bytes: any parameters, digit or read first clears SLEEP, bits 4 to 2 of a parameter
+ * byte are ignored, and any other byte 1 does nothing at all. No other sample changes a parameter or a digit.
  * answer: the refusal, the place, how many reads were obeyed.
  * Refused, where several hold the first of them: BAD_PANEL (12), where no samples from power-on, whatever digits that left, lead to these
  * numbers; BAD_KEY (9); BAD_SAMPLE (1), with the lowest place of a sample above 3, anywhere in the block. Then panel is left as it was,

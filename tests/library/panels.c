@@ -1,5 +1,5 @@
-/* The panel of a CH450 beside the twin's: played by blocks that are cut anywhere, and what it lights; from every panel that there can be,
- * from damaged ones, and request C-15's own cases, also one that no text can show: what an unknown command leaves of SLEEP. */
+/* The panel of a CH450 beside the twin's: played by blocks that are cut anywhere, and what it lights; from panels of any kind that there can
+ * be, from damaged ones, and request C-15's own cases, also one that no text can show: what an unknown command leaves of SLEEP. */
 #include "check.h"
 #include "libc.h"
 #include "twin.h"

@@ -1,4 +1,5 @@
--- The worked examples of the CH450's sheet, document 003, in one list. Each holds of any panel that a run can hold, with idle lines.
+-- The worked examples of the CH450's sheet, document 003, in one list. What they say of a panel holds of any that a run can hold, with
+-- idle lines; one of 6.2 also asks that the display is on.
 -- Assumes nothing.
 use mathlib.Core.Path.{_≡_}
 use mathlib.Core.Bool.{Bool, true, false}
