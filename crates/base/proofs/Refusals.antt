@@ -10,9 +10,9 @@ use Rattle.base.specs.Refusals.{Told, numberOf, placeOf, refusedBy, verd
 use Rattle.base.specs.declared.Refusal.{Refusal}
 use Rattle.base.specs.declared.Verdict.{Verdict}
 use Rattle.base.specs.declared.Verdict.the-variants.{Done, Refused}
-use Rattle.base.specs.declared.Refusal.the-variants.{Sample, ScanChip, ChipCount, PartRow, Rows, Unlisted, Keypad, Room, Field, Line, Text, Record, Count}
+use Rattle.base.specs.declared.Refusal.the-variants.{Sample, ScanChip, ChipCount, PartRow, Rows, Unlisted, Keypad, Room, Field, Line, Text, Record, LitSleep, Count}
 
--- the refusals by their numbers, from 0 up; there is none with the numbers 0 and 13 to 15, and 16 stands for every number from there on
+-- the refusals by their numbers, from 0 up; there is none with the numbers 0, 14 and 15, and 16 stands for every number from there on
 abbrev by-number : List (ℕ → Refusal)
 by-number =
     (λ place. Record)
@@ -28,7 +28,7 @@ by-number =
     ∷ Line
     ∷ (λ place. Text)
     ∷ (λ place. Record)
-    ∷ (λ place. Record)
+    ∷ LitSleep
     ∷ (λ place. Record)
     ∷ (λ place. Record)
     ∷ []
@@ -50,6 +50,7 @@ number-small (Field place) = omega arith
 number-small (Line place) = omega arith
 number-small Text = omega arith
 number-small Record = omega arith
+number-small (LitSleep place) = omega arith
 number-small (Count place) = omega arith
 
 pub refusal-back : (e : Refusal) → refusalOf (numberOf e) (placeOf e) ≡ e
@@ -66,6 +67,7 @@ refusal-back (Field place) = refl
 refusal-back (Line place) = refl
 refusal-back Text = refl
 refusal-back Record = refl
+refusal-back (LitSleep place) = refl
 refusal-back (Count place) = refl
 
 -- ---- an entry after a test that was passed, and after one that was not

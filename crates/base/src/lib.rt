@@ -32,6 +32,9 @@ pub enum Refusal {
     // 12: a chip record or the levels hold what no chip can, of a CH450 what no run from power-on can; so is a tally of captures with more
     // chips than there can be.
     Record,
+    // 13: a sleep word for a chip whose nearest earlier reset or system word in the same list is neither a reset nor has KEYB 0 and DISP
+    // 0, or isn't there; the sleep word's place in the list.
+    LitSleep(u64),
     // 16: a count of a tally has no room for a line's samples and scans; the line's number from 1.
     Count(u64),
 }
@@ -59,6 +62,7 @@ pub fn number(e: Refusal) -> u64
         Refusal::Line(_) => 10,
         Refusal::Text => 11,
         Refusal::Record => 12,
+        Refusal::LitSleep(_) => 13,
         Refusal::Count(_) => 16,
     }
 }
@@ -80,6 +84,7 @@ pub fn place(e: Refusal) -> u64
         Refusal::Line(at) => at,
         Refusal::Text => 0,
         Refusal::Record => 0,
+        Refusal::LitSleep(at) => at,
         Refusal::Count(at) => at,
     }
 }

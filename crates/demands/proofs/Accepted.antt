@@ -7,7 +7,7 @@ use mathlib.Core.Path.{_≡_, refl, ap, subst, _∙_}
 use mathlib.Core.Bool.{Bool, true, false, not, _&&_}
 use mathlib.Core.List.{List, [], _∷_}
 use Prim.Native.Nat.{ℕ, zero, suc, _+_, _-_, _*_, _/_, _≤_, _<_, suc-le-suc}
-use native.Mathlib.Nat.{not-suc-le-zero, le-of-suc-le-suc, div-mul-le-self, zero-mul, zero-lt-suc, lt-of-lt-of-le}
+use native.Mathlib.Nat.{div-mul-le-self, zero-mul, zero-add, zero-lt-suc, lt-of-lt-of-le}
 use native.Mathlib.Omega.{arith}
 use borrow.Author.Tests.{ne-eqb}
 use lib.Arith.{digits-mod}
@@ -25,8 +25,8 @@ use Rattle.word.proofs.Rows.{above-unlisted}
 use Rattle.chip.specs.declared.Chip.{Chip}
 use Rattle.chip.specs.Commands.{applied, obey, reset, system, readKey, woken}
 use Rattle.base.specs.Below.{AllBelow}
-use Rattle.writer.specs.Rows.{cutRows, rowsOf, keypadOn, forLast, wordTest, orElse, wordsFrom, listTest}
-use Rattle.writer.proofs.Tests.{list-passed}
+use Rattle.writer.specs.Rows.{cutRows, rowsOf, keypadOn, forLast, wordTest, sleepTest, listTest}
+use Rattle.writer.proofs.Tests.{passed-first, list-passed}
 use Rattle.demands.specs.Events.{wordFor}
 use Rattle.demands.proofs.Writes.{RowsOf}
 
@@ -48,30 +48,6 @@ Fits n [] = Unit {0}
 Fits n (row ∷ rows) = RowFits n row × Fits n rows
 
 -- ---- the writer's tests
-
-passed-first : (t next : Told (Unit {0})) → IsDone (orElse t next) → IsDone t
-passed-first (done u) next p = tt
-passed-first (refused number place) next p = p
-
-passed-next : (t next : Told (Unit {0})) → IsDone (orElse t next) → IsDone next
-passed-next (done u) next p = p
-passed-next (refused number place) next p = absurd p
-
--- the test of each place, for a list that passed
-words-at : (n place : ℕ) (ws : List ℕ) → IsDone (wordsFrom n place ws) → (p : ℕ) → p < length ws → IsDone (wordTest n (place + p) (decodedOf (getD ws p 0)))
-unfolding wordsFrom
-words-at n place [] t p h = absurd (not-suc-le-zero h)
-words-at n place (w ∷ ws) t zero h =
-    subst (λ x. IsDone (wordTest n x (decodedOf w))) same (passed-first (wordTest n place (decodedOf w)) (wordsFrom n (suc place) ws) t)
-  where
-    same : place ≡ place + 0
-    same = omega arith
-words-at n place (w ∷ ws) t (suc p) h =
-    subst (λ x. IsDone (wordTest n x (decodedOf (getD ws p 0)))) same
-    (words-at n (suc place) ws (passed-next (wordTest n place (decodedOf w)) (wordsFrom n (suc place) ws) t) p (le-of-suc-le-suc h))
-  where
-    same : suc place + p ≡ place + suc p
-    same = omega arith
 
 -- a word that passed the test at chip k's place of row m
 word-fit : (n m k : ℕ) (o : Told Command) → k < n → IsDone (wordTest n (m * n + k) o) → Fit n k o
@@ -111,7 +87,7 @@ rows-fit (suc count) n m ws h t = (
 pub rows-accepted : (n : ℕ) (ws : List ℕ) → listTest n ws ≡ done tt → Fits n (rowsOf n ws)
 rows-accepted n ws e =
     rows-fit (length ws / n) n 0 ws (div-mul-le-self (length ws) n)
-    (λ p h. rw (zero-mul n) (words-at n 0 ws (list-passed n ws e .each) p h))
+    (λ p h. rw (zero-mul n, zero-add) (passed-first (wordTest n p (decodedOf (getD ws p 0))) (sleepTest n ws p (decodedOf (getD ws p 0))) (list-passed n ws e .each p h)))
 
 -- ---- fit words as registers hold them
 

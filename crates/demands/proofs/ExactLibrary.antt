@@ -117,7 +117,7 @@ write-says n words out answer out′ writes =
     let t = answerOf n words out in
     subst (λ xs. SaysExactly xs (writeTable n words out)) (sym (writes .numbers))
     (says-exactly t (numberOr0 t ∷ []) (writeTable n words out) (write-exact n words out)
-    ((λ e. omega arith), ((λ e. omega arith), ((λ e. omega arith), none-append (wordRows n words) (row 8 (BufferShort n words out) ∷ []) 0 (none-each (wordRow n) 0 (λ k w. ((λ e. omega arith), ((λ e. omega arith), tt))) 0 words) ((λ e. omega arith), tt)))))
+    ((λ e. omega arith), ((λ e. omega arith), ((λ e. omega arith), none-append (wordRows n words) (row 8 (BufferShort n words out) ∷ []) 0 (none-each (wordRow n words) 0 (λ k w. ((λ e. omega arith), ((λ e. omega arith), ((λ e. omega arith), tt)))) 0 words) ((λ e. omega arith), tt)))))
 
 pub find-says : (levels : ℕ) (samples : List ℕ) → SaysExactly (findNumbers levels samples) (findTable levels samples)
 find-says levels samples =

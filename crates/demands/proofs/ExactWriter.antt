@@ -12,14 +12,16 @@ use lib.ListN.{length}
 use Rattle.base.specs.Refusals.{Told, IsDone, done, refused}
 use Rattle.word.specs.declared.Command.{Command}
 use Rattle.word.specs.Words.{decodedOf}
-use Rattle.writer.specs.Rows.{keypadOn, forLast, wordTest, orElse, wordsFrom, listTest}
+use Rattle.writer.specs.Lights.{saidBy, maySleep, litSleep}
+use Rattle.writer.specs.Rows.{keypadOn, forLast, wordTest, sleepTest, orElse, testAt, wordsFrom, listTest}
 use Rattle.writer.specs.Written.{room, answerBy, answerOf}
-use Rattle.demands.specs.Exact.{Row, row, each, Exactly}
-use Rattle.demands.specs.Refusals.{NotMultiple}
+use Rattle.demands.specs.Exact.{Row, names, row, each, Exactly}
+use Rattle.demands.specs.Refusals.{NotMultiple, SleepsLit}
 use Rattle.demands.specs.Tables.{decodeTable, wordRow, writeTable}
 use Rattle.demands.proofs.Conditions.{Tests, same-tests, leb-tests, eqb-tests, count-tests}
 use Rattle.demands.proofs.ByTable.{ByTable, answered, here, later, by-table, tested, tested-not, stays, goes-on}
 use Rattle.demands.proofs.Listed.{decoded-table, keypad-tests}
+use Rattle.demands.proofs.Sleeps.{sleep-tests}
 
 -- ---- 4
 
@@ -35,25 +37,30 @@ multiple-tests n ws = same-tests (no-multiple n ws) (rest n ws) (eqb-tests (leng
 
 -- ---- words
 
-word-test : (n place w : ℕ) → ByTable (wordTest n place (decodedOf w)) (wordRow n place w)
-word-test n place w = go (decodedOf w) refl (decoded-table w)
-  where
-    go : (t : Told Command) → decodedOf w ≡ t → ByTable t (decodeTable w) → ByTable (wordTest n place t) (wordRow n place w)
-    go (done c) e (here g f) = absurd (subst IsDone f tt)
-    go (done c) e (later k y) = later k (tested-not (keypadOn c && not (forLast n place)) (done tt) (keypad-tests n place w c e) (answered tt))
-    go (refused number at) e (here g f) = here g refl
-    go (refused number at) e (later k (answered d)) = absurd d
-
 or-else : (t next : Told (Unit {0})) {rows : List Row} (more : List Row) → ByTable t rows → ByTable next more → ByTable (orElse t next) (rows ++ more)
 or-else (done u) next more y z = goes-on y z
 or-else (refused number place) next more y z = stays more y
 
-words-test : (n place : ℕ) (ws : List ℕ) → ByTable (wordsFrom n place ws) (each (wordRow n) place ws)
+word-test : (n : ℕ) (ws : List ℕ) (place w : ℕ) → ByTable (testAt n ws place w) (wordRow n ws place w)
+word-test n ws place w = go (decodedOf w) refl (decoded-table w)
+  where
+    go : (t : Told Command) → decodedOf w ≡ t → ByTable t (decodeTable w)
+        → ByTable (orElse (wordTest n place t) (sleepTest n ws place t)) (wordRow n ws place w)
+    go (done c) e (here g f) = absurd (subst IsDone f tt)
+    go (done c) e (later k y) =
+        later k
+        (or-else (wordTest n place (done c)) (sleepTest n ws place (done c)) (names 13 place (SleepsLit n ws place w) ∷ [])
+        (tested-not (keypadOn c && not (forLast n place)) (done tt) (keypad-tests n place w c e) (answered tt))
+        (tested-not (litSleep (saidBy c) (maySleep n ws place)) (done tt) (sleep-tests n ws place w c e) (answered tt)))
+    go (refused number at) e (here g f) = here g refl
+    go (refused number at) e (later k (answered d)) = absurd d
+
+words-test : (n : ℕ) (all : List ℕ) (place : ℕ) (ws : List ℕ) → ByTable (wordsFrom n all place ws) (each (wordRow n all) place ws)
 unfolding wordsFrom
-words-test n place [] = answered tt
-words-test n place (w ∷ ws) =
-    or-else (wordTest n place (decodedOf w)) (wordsFrom n (suc place) ws) (each (wordRow n) (suc place) ws) (word-test n place w)
-    (words-test n (suc place) ws)
+words-test n all place [] = answered tt
+words-test n all place (w ∷ ws) =
+    or-else (testAt n all place w) (wordsFrom n all (suc place) ws) (each (wordRow n all) (suc place) ws) (word-test n all place w)
+    (words-test n all (suc place) ws)
 
 -- ---- the entry
 
@@ -68,4 +75,4 @@ write-exact n ws out =
     by-table
     (answer-by (listTest n ws) (room n ws) (length out) _ (leb-tests (room n ws) (length out))
     (tested _ (count-tests n)
-    (tested _ (multiple-tests n ws) (tested (wordsFrom n 0 ws) (leb-tests (length ws / n) 64) (words-test n 0 ws)))))
+    (tested _ (multiple-tests n ws) (tested (wordsFrom n ws 0 ws) (leb-tests (length ws / n) 64) (words-test n ws 0 ws)))))

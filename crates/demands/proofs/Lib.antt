@@ -12,6 +12,7 @@ pub mod Cases
 pub mod Conditions
 pub mod ByTable
 pub mod Listed
+pub mod Sleeps
 pub mod Exact
 pub mod ExactChain
 pub mod ExactWriter

@@ -1,16 +1,21 @@
 -- Listed words, by the words of commands: what the decoder refuses is what no command has, and what turns the keypad on is a system
 -- word with KEYB 1.
 --     decoded-table      6: a word's meaning is told exactly when it is listed and not above 4,095
+--     own-word           a listed word without x bits is its command's word
 --     keypad-tests       7: of a word that means a command
 -- Assumes nothing.
 use mathlib.Core.Path.{_≡_, refl, ap, sym, subst, _∙_}
 use mathlib.Core.Bool.{Bool, true, false, not, _&&_, _||_}
 use mathlib.Core.Logic.{inl, inr}
-use Prim.Native.Nat.{ℕ, _-_, _%_, _<_}
+use Prim.Native.Nat.{ℕ, _-_, _/_, _%_, _^_, _<_}
+use native.Mathlib.Omega.{arith}
 use lib.Dec.{T, eqb, eqb→eq}
 use Rattle.base.specs.Below.{below}
+use Rattle.base.specs.Pick.{pick}
 use Rattle.base.specs.Refusals.{Told, IsDone, done, refused}
+use Rattle.base.proofs.Cuts.{bit-value-lt}
 use Rattle.base.proofs.Tests.{at-below, by-order, and-left, and-right, is-true}
+use Rattle.word.specs.declared.System.{System}
 use Rattle.word.specs.declared.Command.{Command}
 use Rattle.word.specs.declared.Command.the-variants.{NoOperation, BarLevel, SegmentClear, SegmentSet, Reset, Sleep, ShiftLeft, ShiftRight, RotateLeft, RotateRight, CustomCharacter, SystemParameters, DisplayParameters, BlinkByte, ReadKey, LoadDigit}
 use Rattle.word.specs.Words.{decodedOf, wordOf, plain, unlisted}
@@ -84,23 +89,31 @@ decoded-table w = go (decodedOf w) refl
     go (refused number place) e =
         here (by-order 4096 w (λ h. inr h) (λ h. inl (not-refused w number place h e))) (all-sixes w number place e)
 
+-- ---- words without x bits
+
+-- a word that isn't one of those with x bits is its own plain word
+pub own-word : (w : ℕ) (c : Command) → decodedOf w ≡ done c → (wordOf c ≡ 0 → ⊥) → (wordOf c ≡ 0x700 → ⊥) → wordOf c ≡ w
+unfolding plain
+own-word w c e no-0 no-7 = go (eqb (w / 2 ^ 8) 0) (eqb (w / 2 ^ 8) 7) (word-back w c e)
+  where
+    go : (a b : Bool) → wordOf c ≡ pick a 0 (pick b 0x700 w) → wordOf c ≡ w
+    go true b q = absurd (no-0 q)
+    go false true q = absurd (no-7 q)
+    go false false q = q
+
+pub system-own : (w : ℕ) (s : System) → decodedOf w ≡ done (SystemParameters s) → wordOf (SystemParameters s) ≡ w
+system-own w s e =
+    let i = bit-value-lt (s .intm) in
+    let p = bit-value-lt (s .sspd) in
+    let l = bit-value-lt (s .dplr) in
+    let k = bit-value-lt (s .keyb) in
+    let d = bit-value-lt (s .disp) in
+    own-word w (SystemParameters s) e (λ q. omega arith) (λ q. omega arith)
+
 -- ---- 7
 
--- a command that turns the keypad on has its word
-abbrev keypad-own : ℕ → Told Command → Bool
-keypad-own w (done c) = not (keypadOn c) || eqb (wordOf c) w
-keypad-own w (refused number place) = true
-
-own-word : (w : ℕ) (c : Command) → decodedOf w ≡ done c → keypadOn c ≡ true → wordOf c ≡ w
-unfolding decodedOf
-own-word w c e k =
-    by-order 4096 w (λ h. absurd (subst IsDone (sym e ∙ above-unlisted w h) tt))
-    (λ h.
-    eqb→eq (wordOf c) w
-    (subst (λ b. T (not b || eqb (wordOf c) w)) k (subst (λ o. T (keypad-own w o)) e (at-words keypad-own tt w h))))
-
--- it is a system word
-system-only : (w : ℕ) (c : Command) → T (keypadOn c) → wordOf c ≡ w → KeypadWord w
+-- a command that turns the keypad on is one of system parameters
+system-only : (w : ℕ) (c : Command) → T (keypadOn c) → decodedOf w ≡ done c → KeypadWord w
 system-only w NoOperation k e = absurd k
 system-only w (BarLevel level) k e = absurd k
 system-only w (SegmentClear addr) k e = absurd k
@@ -112,7 +125,7 @@ system-only w ShiftRight k e = absurd k
 system-only w RotateLeft k e = absurd k
 system-only w RotateRight k e = absurd k
 system-only w (CustomCharacter shape) k e = absurd k
-system-only w (SystemParameters s) k e = (s, is-true (s .keyb) k, e)
+system-only w (SystemParameters s) k e = (s, is-true (s .keyb) k, system-own w s e)
 system-only w (DisplayParameters d) k e = absurd k
 system-only w (BlinkByte byte) k e = absurd k
 system-only w ReadKey k e = absurd k
@@ -135,5 +148,5 @@ keypad-tests n place w c e = go (keypadOn c) (forLast n place) refl (eqb-tests (
   where
     go : (k f : Bool) → keypadOn c ≡ k → Tests (place % n ≡ n - 1 → ⊥) f → Tests (KeypadBeforeLast n place w) (not (k && not f))
     go true true q (passed p) = passed (λ y. p (y .1))
-    go true false q (failed p) = failed (system-only w c (subst T (sym q) tt) (own-word w c e q), p)
+    go true false q (failed p) = failed (system-only w c (subst T (sym q) tt) e, p)
     go false f q t = passed (λ y. subst T (sym (keypad-back w c e (y .0)) ∙ q) tt)

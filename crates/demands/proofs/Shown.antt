@@ -1,10 +1,10 @@
 -- A LOAD rise can change the display: rows for one chip that make it light any eight bytes.
---     rows-accepted-for     rows of legal commands that turn no keypad on are accepted by the writer
+--     rows-accepted-for     rows of legal commands that turn no keypad on and aren't sleep are accepted by the writer
 --     told-alone            a history without scans is its commands
 --     answer-1-reached      for any chip and any eight bytes there are rows that the writer accepts, after whose play that chip lights these
 -- Assumes nothing.
 use mathlib.Core.Path.{_≡_, refl, ap, ap₂, sym, subst, _∙_}
-use mathlib.Core.Bool.{true, false, not, _&&_}
+use mathlib.Core.Bool.{Bool, true, false, not, _&&_}
 use mathlib.Core.List.{List, [], _∷_, _++_, map, append-nil, nil≢cons}
 use Prim.Native.Nat.{ℕ, zero, suc, _+_, _*_, _/_, _%_, _≤_, _<_}
 use native.Mathlib.Nat.{mul-div-cancel, mul-mod-left}
@@ -13,13 +13,14 @@ use borrow.Author.Tests.{eq-eqb, le-leb}
 use lib.Dec.{T, leb, le→leb}
 use lib.ListN.{length, set, replicate, length-append, length-set, length-replicate, length-map}
 use lib.Seq.{take-at, drop-at, getD-set-same}
+use Rattle.base.specs.Pick.{pick}
 use Rattle.base.specs.Refusals.{done, refused}
-use Rattle.base.proofs.Picks.{pick-yes, pick-no}
+use Rattle.base.proofs.Picks.{pick-yes}
 use Rattle.base.proofs.Tests.{is-true}
 use Rattle.word.specs.declared.Command.{Command}
 use Rattle.word.specs.declared.Command.the-variants.{NoOperation, Reset, SystemParameters, LoadDigit}
 use Rattle.word.specs.declared.Encoded.the-variants.{Word}
-use Rattle.word.specs.Words.{decodedOf, encodedOf, wordOf, legal}
+use Rattle.word.specs.Words.{encodedOf, wordOf, legal}
 use Rattle.word.proofs.RoundTrips.{command-back}
 use Rattle.chip.specs.declared.Chip.{Chip}
 use Rattle.chip.specs.Commands.{applied, obey, reset, system}
@@ -33,7 +34,8 @@ use Rattle.chain.specs.Entries.{chipAt}
 use Rattle.base.specs.Below.{AllBelow}
 use Rattle.chain.proofs.Tested.{count-low}
 use Rattle.chain.specs.Events.{Event, sample, happened, samplesIn, ScansBelow}
-use Rattle.writer.specs.Rows.{cutRows, rowsOf, written, keypadOn, forLast, wordTest, orElse, wordsFrom, listTest}
+use Rattle.writer.specs.Lights.{saidBy, maySleep, litSleep}
+use Rattle.writer.specs.Rows.{cutRows, rowsOf, written, keypadOn, forLast, wordTest, sleepTest, orElse, testAt, wordsFrom, listTest}
 use Rattle.demands.specs.Events.{stepsFor, commandsIn}
 use Rattle.demands.specs.Demand3.{AskedChain, Asked, scansIn, scansOf}
 use Rattle.demands.specs.Whole.{Encodes, commandFor}
@@ -45,9 +47,9 @@ use Rattle.demands.proofs.Whole.{commands-told}
 
 -- ---- commands that any chip may be sent
 
--- legal, and no keypad turned on
+-- legal, no keypad turned on, and no sleep
 abbrev Sendable : Command → Type 0
-Sendable command = T (legal command) × (keypadOn command ≡ false)
+Sendable command = T (legal command) × (keypadOn command ≡ false) × ((may : Bool) → litSleep (saidBy command) may ≡ false)
 
 abbrev Each : List Command → Type 0
 Each [] = Unit {0}
@@ -76,7 +78,7 @@ row-sendable n k c s = one (replicate n NoOperation) k (all n)
   where
     all : (m : ℕ) → Each (replicate m NoOperation)
     all zero = tt
-    all (suc m) = ((tt, refl), all m)
+    all (suc m) = ((tt, refl, λ may. refl), all m)
 
     one : (cs : List Command) (j : ℕ) → Each cs → Each (set cs j c)
     one [] j p = tt
@@ -121,15 +123,17 @@ module _ (n k : ℕ) where
 
 -- ---- the writer's tests
 
-word-passes : (n place : ℕ) (c : Command) → Sendable c → wordTest n place (decodedOf (wordOf c)) ≡ done tt
-word-passes n place c s =
-    ap (wordTest n place) (command-back c (s .0)) ∙ pick-no (refused 7 place) (done tt) (ap (λ b. b && not (forLast n place)) (s .1))
+word-passes : (n : ℕ) (ws : List ℕ) (place : ℕ) (c : Command) → Sendable c → testAt n ws place (wordOf c) ≡ done tt
+word-passes n ws place c s =
+    ap (λ t. orElse (wordTest n place t) (sleepTest n ws place t)) (command-back c (s .0))
+    ∙ ap₂ (λ k l. orElse (pick k (refused 7 place) (done tt)) (pick l (refused 13 place) (done tt)))
+    (ap (λ b. b && not (forLast n place)) (s .1)) (s .2 (maySleep n ws place))
 
-words-pass : (n place : ℕ) (cs : List Command) → Each cs → wordsFrom n place (map wordOf cs) ≡ done tt
+words-pass : (n : ℕ) (ws : List ℕ) (place : ℕ) (cs : List Command) → Each cs → wordsFrom n ws place (map wordOf cs) ≡ done tt
 unfolding wordsFrom
-words-pass n place [] p = refl
-words-pass n place (c ∷ cs) p =
-    ap (λ t. orElse t (wordsFrom n (suc place) (map wordOf cs))) (word-passes n place c (p .0)) ∙ words-pass n (suc place) cs (p .1)
+words-pass n ws place [] p = refl
+words-pass n ws place (c ∷ cs) p =
+    ap (λ t. orElse t (wordsFrom n ws (suc place) (map wordOf cs))) (word-passes n ws place c (p .0)) ∙ words-pass n ws (suc place) cs (p .1)
 
 rows-accepted-for : (n k : ℕ) (cs : List Command) → T (chipCount n) → length cs ≤ 64 → Each cs → listTest n (map wordOf (rows-for n k cs)) ≡ done tt
 unfolding listTest
@@ -141,7 +145,7 @@ rows-accepted-for n k cs count few p =
     pick-yes _ _ (is-true (chipCount n) count)
     ∙ pick-yes _ _ (eq-eqb (length (map wordOf (rows-for n k cs)) % n) 0 whole)
     ∙ pick-yes _ _ (le-leb (length (map wordOf (rows-for n k cs)) / n) 64 (subst (λ x. x ≤ 64) (sym rows) few))
-    ∙ words-pass n 0 (rows-for n k cs) (for-sendable n k cs p)
+    ∙ words-pass n (map wordOf (rows-for n k cs)) 0 (rows-for n k cs) (for-sendable n k cs p)
 
 encodes-each : (cs : List Command) → Each cs → Encodes cs (map wordOf cs)
 unfolding encodedOf
@@ -243,7 +247,7 @@ reached n ch asked k h a b c d e f g i small = (
         (Reset
         ∷ SystemParameters (record { intm = false; sspd = false; dplr = false; keyb = false; disp = true })
         ∷ LoadDigit 0 a ∷ LoadDigit 1 b ∷ LoadDigit 2 c ∷ LoadDigit 3 d ∷ LoadDigit 4 e ∷ LoadDigit 5 f ∷ LoadDigit 6 g ∷ LoadDigit 7 i ∷ [])
-    p = ((tt, refl), ((tt, refl), ((byte a (small .0), refl), ((byte b (small .1 .0), refl), ((byte c (small .1 .1 .0), refl), ((byte d (small .1 .1 .1 .0), refl), ((byte e (small .1 .1 .1 .1 .0), refl), ((byte f (small .1 .1 .1 .1 .1 .0), refl), ((byte g (small .1 .1 .1 .1 .1 .1 .0), refl), ((byte i (small .1 .1 .1 .1 .1 .1 .1 .0), refl), tt))))))))))
+    p = ((tt, refl, λ may. refl), ((tt, refl, λ may. refl), ((byte a (small .0), refl, λ may. refl), ((byte b (small .1 .0), refl, λ may. refl), ((byte c (small .1 .1 .0), refl, λ may. refl), ((byte d (small .1 .1 .1 .0), refl, λ may. refl), ((byte e (small .1 .1 .1 .1 .0), refl, λ may. refl), ((byte f (small .1 .1 .1 .1 .1 .0), refl, λ may. refl), ((byte g (small .1 .1 .1 .1 .1 .1 .0), refl, λ may. refl), ((byte i (small .1 .1 .1 .1 .1 .1 .1 .0), refl, λ may. refl), tt))))))))))
 
 pub answer-1-reached : AnyDisplay
 answer-1-reached n ch asked k h [] size small = absurd (omega arith)

@@ -1,7 +1,7 @@
 -- Document 01, "Refusal numbers": each row's "given exactly when", as a statement about what an entry was given.
 -- Assumes nothing.
 use mathlib.Core.Path.{_≡_}
-use mathlib.Core.Bool.{true}
+use mathlib.Core.Bool.{true, false}
 use mathlib.Core.Logic.{_⊎_}
 use mathlib.Core.List.{List, [], _∷_}
 use Prim.Native.Nat.{ℕ, _+_, _*_, _-_, _/_, _%_, _<_, _≤_}
@@ -91,10 +91,33 @@ KeypadWord w = (s : System) × (s .keyb ≡ true) × (wordOf (SystemParameters s
 abbrev pub KeypadBeforeLast : ℕ → ℕ → ℕ → Type 0
 KeypadBeforeLast n place w = KeypadWord w × (place % n ≡ n - 1 → ⊥)
 
--- the words before a place, which are neither 6 nor 7
+-- a reset or a system word
+abbrev pub Switches : ℕ → Type 0
+Switches w = (wordOf Reset ≡ w) ⊎ ((s : System) × (wordOf (SystemParameters s) ≡ w))
+
+-- a reset, or a system word with KEYB 0 and DISP 0
+abbrev pub SwitchesOff : ℕ → Type 0
+SwitchesOff w = (wordOf Reset ≡ w) ⊎ ((s : System) × (s .keyb ≡ false) × (s .disp ≡ false) × (wordOf (SystemParameters s) ≡ w))
+
+-- an earlier place of the list, for the same chip
+abbrev pub Earlier : ℕ → ℕ → ℕ → Type 0
+Earlier n place q = (q < place) × (q % n ≡ place % n)
+
+-- the nearest earlier reset or system word for that chip exists, and is a reset or has KEYB 0 and DISP 0: there is an earlier word for it
+-- that is one of these, with no reset or system word for it after that
+abbrev pub SwitchedOff : ℕ → List ℕ → ℕ → Type 0
+SwitchedOff n ws place =
+    (q : ℕ) × Earlier n place q × SwitchesOff (getD ws q 0) × ((m : ℕ) → q < m → Earlier n place m → Switches (getD ws m 0) → ⊥)
+
+-- 13: a sleep word for a chip that wasn't switched off before it in the same list (C-17)
+abbrev pub SleepsLit : ℕ → List ℕ → ℕ → ℕ → Type 0
+SleepsLit n ws place w = (wordOf Sleep ≡ w) × (SwitchedOff n ws place → ⊥)
+
+-- the words before a place, which are neither 6 nor 7 nor 13
 abbrev pub AcceptedBefore : ℕ → List ℕ → ℕ → Type 0
 AcceptedBefore n ws place =
-    (q : ℕ) → q < place → (Unlisted (getD ws q 0) → ⊥) × (KeypadBeforeLast n q (getD ws q 0) → ⊥)
+    (q : ℕ) → q < place
+    → (Unlisted (getD ws q 0) → ⊥) × (KeypadBeforeLast n q (getD ws q 0) → ⊥) × (SleepsLit n ws q (getD ws q 0) → ⊥)
 
 -- 8: the buffer is shorter than the samples, 24N + 2 for each row
 abbrev pub BufferShort : ℕ → List ℕ → List ℕ → Type 0

@@ -1,5 +1,5 @@
 -- Document 01, "Refusal numbers": the table of each entry, its refusals in document 01's order: 3, 12, 9, then 4, 5, then words
--- from the first on (6 before 7; the place is named), then 8; samples and a scan's chip after 3 and 12. A table has the refusals
+-- from the first on (6, 7, 13; the place is named), then 8; samples and a scan's chip after 3 and 12. A table has the refusals
 -- that the entry's arguments can give rise to. proofs/Exact.antt, ExactChain.antt, ExactWriter.antt and ExactLibrary.antt prove that each
 -- entry keeps to its table; a text's table is in specs/Texts.antt, that of a tally's text in specs/Tallies.antt.
 -- Assumes nothing.
@@ -10,7 +10,7 @@ use Rattle.word.specs.declared.Command.{Command}
 use Rattle.chip.specs.declared.Chip.{Chip}
 use Rattle.chain.specs.declared.Chain.{Chain}
 use Rattle.demands.specs.Exact.{Row, names, row, each}
-use Rattle.demands.specs.Refusals.{SampleAbove7, ChipNotBelow, NotOneToMost, NotMultiple, MoreThan64Rows, OutOfRange, NumbersOutOfRange, Unlisted, KeypadBeforeLast, BufferShort, Unheld, LevelsAbove7, UnheldChain}
+use Rattle.demands.specs.Refusals.{SampleAbove7, ChipNotBelow, NotOneToMost, NotMultiple, MoreThan64Rows, OutOfRange, NumbersOutOfRange, Unlisted, KeypadBeforeLast, SleepsLit, BufferShort, Unheld, LevelsAbove7, UnheldChain}
 
 -- ---- words
 
@@ -77,13 +77,13 @@ findTable levels samples = row 12 (LevelsAbove7 levels) ∷ sampleRows samples
 
 -- ---- the writer
 
--- a word at a place: 6 before 7
-abbrev pub wordRow : ℕ → ℕ → ℕ → List Row
-wordRow n place w = names 6 place (Unlisted w) ∷ names 7 place (KeypadBeforeLast n place w) ∷ []
+-- a word at a place of the list: 6, 7, 13
+abbrev pub wordRow : ℕ → List ℕ → ℕ → ℕ → List Row
+wordRow n ws place w = names 6 place (Unlisted w) ∷ names 7 place (KeypadBeforeLast n place w) ∷ names 13 place (SleepsLit n ws place w) ∷ []
 
 -- words from the first on; the place is named
 abbrev pub wordRows : ℕ → List ℕ → List Row
-wordRows n words = each (wordRow n) 0 words
+wordRows n ws = each (wordRow n ws) 0 ws
 
 -- writer::write
 abbrev pub writeTable : ℕ → List ℕ → List ℕ → List Row

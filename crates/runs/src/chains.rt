@@ -47,6 +47,7 @@ pub fn refusal(e: Refusal) {
         Refusal::Line(place) => numbered(10, place),
         Refusal::Text => numbered(11, 0),
         Refusal::Record => numbered(12, 0),
+        Refusal::LitSleep(place) => numbered(13, place),
         Refusal::Count(place) => numbered(16, place),
     }
 }

@@ -2,6 +2,7 @@
 // for each. What it must write stands in the file `stdout`, which was written from document 01 and C-15.
 mod chains;
 mod full;
+mod sleeps;
 mod text;
 mod two_wires;
 mod writes;
@@ -9,6 +10,7 @@ mod writes;
 fn main() {
     chains::run();
     writes::run();
+    sleeps::run();
     full::run();
     two_wires::run();
 }

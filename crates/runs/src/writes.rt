@@ -15,7 +15,7 @@ pub fn run() {
 }
 
 // How many samples were written, or the refusal.
-fn answered(w: Written) {
+pub fn answered(w: Written) {
     match w {
         Written::Samples(count) => {
             io::print_decimal(1, count as u64);
@@ -27,6 +27,12 @@ fn answered(w: Written) {
         }
     }
     line_end();
+}
+
+// A list, and what the writer answers with room for all of it.
+pub fn listed(n: usize, words: &[u16]) {
+    let mut out = [0u8; 220];
+    answered(writer::write(n, words, &mut out));
 }
 
 fn rows() {
@@ -48,36 +54,34 @@ fn rows() {
 fn chips() {
     let eight = [0u16; 8];
     let nine = [0u16; 9];
-    let mut out = [0u8; 220];
     put(b"a row for 8 chips: ");
-    answered(writer::write(8, &eight, &mut out));
+    listed(8, &eight);
     put(b"a row for 9 chips: ");
-    answered(writer::write(9, &nine, &mut out));
+    listed(9, &nine);
     put(b"a list of 9 words for 8 chips: ");
-    answered(writer::write(8, &nine, &mut out));
+    listed(8, &nine);
 }
 
 fn lists() {
     let none = [0u16; 0];
-    let mut out = [0u8; 50];
     let mut no_room = [0u8; 1];
     put(b"no words: ");
-    answered(writer::write(2, &none, &mut out));
+    listed(2, &none);
     let last = [0x000u16, 0x403];
     put(b"KEYB 1 for the last chip: ");
-    answered(writer::write(2, &last, &mut out));
+    listed(2, &last);
     let first = [0x403u16, 0x000];
     put(b"KEYB 1 for another chip: ");
-    answered(writer::write(2, &first, &mut out));
+    listed(2, &first);
     let full = [0x141u16, 0x17F];
     put(b"bar levels 65 and 127: ");
-    answered(writer::write(2, &full, &mut out));
+    listed(2, &full);
     let unlisted = [0x000u16, 0x404];
     put(b"an unlisted word and no room: ");
     answered(writer::write(2, &unlisted, &mut no_room));
     let large = [5000u16, 0x403];
     put(b"a word above 4,095: ");
-    answered(writer::write(2, &large, &mut out));
+    listed(2, &large);
 }
 
 // What stands in DIG0 of three chips, and the last one's key code.

@@ -1,4 +1,5 @@
 pub mod Tests
+pub mod Nearest
 pub mod Filling
 pub mod Stretches
 pub mod Unique

@@ -1,4 +1,4 @@
--- Document 01, "The writer and the finder": the samples that rows of words are written as, and the words that are accepted.
+-- Document 01, "The writer and the finder": the samples that rows of words are written as, and the words that are accepted (C-17).
 -- Assumes nothing.
 use Prim.Native.Nat.{ℕ, zero, suc, _+_, _-_, _*_, _/_, _%_}
 use mathlib.Core.Bool.{Bool, false, not, _&&_}
@@ -12,6 +12,7 @@ use Rattle.word.specs.declared.Command.{Command}
 use Rattle.word.specs.declared.Command.the-variants.{NoOperation, BarLevel, SegmentClear, SegmentSet, Reset, Sleep, ShiftLeft, ShiftRight, RotateLeft, RotateRight, CustomCharacter, SystemParameters, DisplayParameters, BlinkByte, ReadKey, LoadDigit}
 use Rattle.word.specs.Words.{decodedOf}
 use Rattle.chain.specs.Chain.{chipCount}
+use Rattle.writer.specs.Lights.{saidOf, maySleep, litSleep}
 
 -- ---- rows
 
@@ -85,28 +86,32 @@ keypadOn (LoadDigit dig byte) = false
 abbrev pub forLast : ℕ → ℕ → Bool
 forLast n place = eqb (place % n) (n - 1)
 
--- what a word means, as the decoder has it
-abbrev pub meaning : ℕ → Told Command
-meaning w = decodedOf w
-
 -- what a word at a place means for the writer: 6 where it is unlisted, 7 where it turns the keypad on before the last chip
 abbrev pub wordTest : ℕ → ℕ → Told Command → Told (Unit {0})
 wordTest n place (refused number at) = refused 6 place
 wordTest n place (done command) = pick (keypadOn command && not (forLast n place)) (refused 7 place) (done tt)
+
+-- 13 where it is a sleep word, unless its chip's nearest earlier reset or system word in the list is a reset or has KEYB 0 and DISP 0
+abbrev pub sleepTest : ℕ → List ℕ → ℕ → Told Command → Told (Unit {0})
+sleepTest n ws place means = pick (litSleep (saidOf means) (maySleep n ws place)) (refused 13 place) (done tt)
 
 -- a test, and the next where it is passed
 abbrev pub orElse : Told (Unit {0}) → Told (Unit {0}) → Told (Unit {0})
 orElse (done u) next = next
 orElse (refused number place) next = refused number place
 
--- what the first word that isn't accepted says, from a place on
-unfoldable pub wordsFrom : ℕ → ℕ → List ℕ → Told (Unit {0})
-wordsFrom n place [] = done tt
-wordsFrom n place (w ∷ ws) = orElse (wordTest n place (decodedOf w)) (wordsFrom n (suc place) ws)
+-- for one word at a place of the list 6, 7, 13
+abbrev pub testAt : ℕ → List ℕ → ℕ → ℕ → Told (Unit {0})
+testAt n ws place w = orElse (wordTest n place (decodedOf w)) (sleepTest n ws place (decodedOf w))
+
+-- what the first word of the list that isn't accepted says, from a place on
+unfoldable pub wordsFrom : ℕ → List ℕ → ℕ → List ℕ → Told (Unit {0})
+wordsFrom n ws place [] = done tt
+wordsFrom n ws place (w ∷ rest) = orElse (testAt n ws place w) (wordsFrom n ws (suc place) rest)
 
 -- the list is accepted, whatever the buffer: refusals 3, 4, 5, then words from the first on
 unfoldable pub listTest : ℕ → List ℕ → Told (Unit {0})
 listTest n ws =
     pick (chipCount n)
-    (pick (eqb (length ws % n) 0) (pick (leb (length ws / n) 64) (wordsFrom n 0 ws) (refused 5 0)) (refused 4 0))
+    (pick (eqb (length ws % n) 0) (pick (leb (length ws / n) 64) (wordsFrom n ws 0 ws) (refused 5 0)) (refused 4 0))
     (refused 3 0)

@@ -26,7 +26,7 @@ abbrev pub answerBy : Told (Unit {0}) → ℕ → ℕ → Told ℕ
 answerBy (refused number place) need have = refused number place
 answerBy (done u) need have = pick (leb need have) (done need) (refused 8 0)
 
--- the answer: refusals 3, 4, 5, words from the first on (6 before 7), 8
+-- the answer: refusals 3, 4, 5, words from the first on (6, 7, 13), 8
 unfoldable pub answerOf : ℕ → List ℕ → List ℕ → Told ℕ
 answerOf n ws out = answerBy (listTest n ws) (room n ws) (length out)
 

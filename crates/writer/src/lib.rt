@@ -1,12 +1,15 @@
 // The writer: rows of words to samples, each row into its own stretch of the lent buffer. The entry is `write`; nothing else is
 // public.
+mod lights;
+
 use base::Refusal;
 use base::Verdict;
 use word::Command;
 use word::Decoded;
 ghost use mathlib.Core.Path.{_≡_};
+ghost use mathlib.Core.Bool.{not, _&&_};
 ghost use Prim.Native.Nat.{_+_, _*_, _/_, _≤_, _<_};
-ghost use lib.ListN.{length};
+ghost use lib.ListN.{length, getD};
 ghost use Rattle.base.specs.Lent.{laid};
 ghost use Rattle.base.specs.Refusals.{verdictTells};
 ghost use Rattle.writer.specs.Rows.{wordBits, clocking};
@@ -44,21 +47,35 @@ fn turns_keypad_on(command: Command) -> bool
     }
 }
 
-// One word at a place of the list: 6 where it is unlisted, 7 where it turns the keypad on before the last chip.
-fn tested(n: usize, place: usize, w: u16) -> Verdict
+// Whether a command at a place of the list turns the keypad on before the last chip.
+fn is_early_keypad(n: usize, place: usize, command: Command) -> bool
     requires { ⌜ 0 < n ⌝ }
-    ensures { λ r. ⌜ verdictTells r ≡ R.wordTest n place (R.meaning w) ⌝ }
+    ensures { λ r. ⌜ r ≡ (R.keypadOn command && not (R.forLast n place)) ⌝ }
 {
+    if !turns_keypad_on(command) {
+        return false;
+    }
+    place % n != n - 1
+}
+
+// One word at its place of the list: 6 where it is unlisted, 7 where it turns the keypad on before the last chip, 13 where it is a sleep
+// word and the chip's display and keypad weren't switched off before.
+fn tested(n: usize, words: &[u16], place: usize) -> Verdict
+    requires { ⌜ 0 < n ⌝ }
+    requires { ⌜ place < length (now words) ⌝ }
+    ensures { λ r. ⌜ verdictTells r ≡ R.testAt n (now (words .entry)) place (getD (now (words .entry)) place 0) ⌝ }
+{
+    let w = words[place];
     match word::decode(w) {
         Decoded::Refused(_) => Verdict::Refused(Refusal::Unlisted(place as u64)),
         Decoded::Means(c) => {
-            if !turns_keypad_on(c) {
-                return Verdict::Done;
+            if is_early_keypad(n, place, c) {
+                return Verdict::Refused(Refusal::Keypad(place as u64));
             }
-            if place % n == n - 1 {
-                return Verdict::Done;
+            if lights::is_lit_sleep(n, words, place, c) {
+                return Verdict::Refused(Refusal::LitSleep(place as u64));
             }
-            Verdict::Refused(Refusal::Keypad(place as u64))
+            Verdict::Done
         }
     }
 }
@@ -66,11 +83,11 @@ fn tested(n: usize, place: usize, w: u16) -> Verdict
 // The words from the first on.
 fn tested_all(n: usize, words: &[u16]) -> Verdict
     requires { ⌜ 0 < n ⌝ }
-    ensures { λ r. ⌜ verdictTells r ≡ R.wordsFrom n 0 (now (words .entry)) ⌝ }
+    ensures { λ r. ⌜ verdictTells r ≡ R.wordsFrom n (now (words .entry)) 0 (now (words .entry)) ⌝ }
 {
     let mut i = 0;
     while i < words.len() {
-        let test = tested(n, i, words[i]);
+        let test = tested(n, words, i);
         match test {
             Verdict::Refused(e) => {
                 return Verdict::Refused(e);
@@ -156,7 +173,7 @@ fn write_rows(n: usize, words: &[u16], out: &mut [u8]) -> usize
     width * rows
 }
 
-// Writes rows of words, chip 0 first in each row: refusals 3, 4, 5, then words from the first on (6 before 7), then 8.
+// Writes rows of words, chip 0 first in each row: refusals 3, 4, 5, then words from the first on (6, 7, 13), then 8.
 pub fn write(n: usize, words: &[u16], out: &mut [u8]) -> Written
     ensures { λ r. ⌜ Writes n (now (words .entry)) (now (out .entry)) r (now (out .exit)) ⌝ }
 {

@@ -11,7 +11,7 @@ use Rattle.writer.proofs.tested_all.Statement.{statement}
 use Rattle.writer.proofs.tested_all.Tie as tie
 
 abbrev Inv-loop : tie.InvT-loop
-Inv-loop n words i₀ i = (i ≤ length words) × (wordsFrom n i (drop i words) ≡ wordsFrom n 0 words)
+Inv-loop n words i₀ i = (i ≤ length words) × (wordsFrom n words i (drop i words) ≡ wordsFrom n words 0 words)
 
 abbrev μ-loop : tie.MeasureT-loop
 μ-loop n words i₀ i = length words - i
@@ -21,21 +21,21 @@ loop-holds c = (search needs, refl)
 
 returns : tie.Need-returns Inv-loop μ-loop
 returns c =
-    let l = c .before .before .before .before .before .before .loop in
-    let a = c .before .before .before .before .before .before .before .before .args in
+    let l = c .before .before .before .before .before .loop in
+    let a = c .before .before .before .before .before .before .before .args in
     let ws = a .words .now in
-    ap (λ (t : Told (Unit {0})). orElse t (wordsFrom (a .n) (l .i + 1) (drop (l .i + 1) ws))) (ap verdictTells (sym (c .before .test .given .1)) ∙ c .before .before .before .tested .ensures)
-    ∙ sym (words-more (a .n) ws (l .i) (c .before .before .before .before .before .loop-test .taken))
+    ap (λ (t : Told (Unit {0})). orElse t (wordsFrom (a .n) ws (l .i + 1) (drop (l .i + 1) ws))) (ap verdictTells (sym (c .before .test .given .1)) ∙ c .before .before .before .tested .ensures)
+    ∙ sym (words-more (a .n) ws (l .i) (c .before .before .before .before .loop-test .taken))
     ∙ l .inv .1
 
 loop-again : tie.Need-loop-again Inv-loop μ-loop
 loop-again c =
-    let l = c .before .before .before .before .before .loop in
-    let a = c .before .before .before .before .before .before .before .args in
+    let l = c .before .before .before .before .loop in
+    let a = c .before .before .before .before .before .before .args in
     let ws = a .words .now in (
       search needs,
-      ap (λ (t : Told (Unit {0})). orElse t (wordsFrom (a .n) (l .i + 1) (drop (l .i + 1) ws))) (ap verdictTells (sym (c .enum-told .given .1)) ∙ c .before .before .tested .ensures)
-          ∙ sym (words-more (a .n) ws (l .i) (c .before .before .before .before .loop-test .taken))
+      ap (λ (t : Told (Unit {0})). orElse t (wordsFrom (a .n) ws (l .i + 1) (drop (l .i + 1) ws))) (ap verdictTells (sym (c .enum-told .given .1)) ∙ c .before .before .tested .ensures)
+          ∙ sym (words-more (a .n) ws (l .i) (c .before .before .before .loop-test .taken))
           ∙ l .inv .1,
     )
 
@@ -49,8 +49,6 @@ tested-all-spec =
     Inv-loop
     μ-loop
     loop-holds
-    (λ c. search needs)
-    (λ c. search needs)
     (λ c κs. search needs)
     (λ c. search needs)
     returns
