@@ -29,6 +29,7 @@ pub mod Unchanged
 pub mod RisePlaces
 pub mod Direct
 pub mod Whole
+pub mod Asleep
 pub mod Alone
 pub mod Shown
 pub mod Codes

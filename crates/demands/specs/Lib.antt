@@ -15,4 +15,5 @@ pub mod WiresTexts
 pub mod WiresUnchanged
 pub mod Direct
 pub mod Whole
+pub mod Asleep
 pub mod Alone

@@ -1,0 +1,265 @@
+-- C-17, what the rule is for, from the play: by demand 3 each chip is as after its own commands, and the rule speaks of these.
+--     both-off                          a chip with DISP 0 and KEYB 0 shows nothing and takes no keys
+--     applied-off, asleep-said          what a command leaves of both, and which command puts a chip to sleep
+--     lights-kept                       both are off after any events, where that is what the chip was told last
+--     rows-allowed                      of an accepted list, each chip's sleep words stand where both were said to be off
+--     dark-before-sleep                 the theorem
+--     dark-before-sleep-of-calls        the theorem of calls
+--     some-sleep                        there is a chip that it speaks of
+-- Assumes nothing.
+use mathlib.Core.Path.{_≡_, refl, ap, ap₂, sym, subst, _∙_}
+use mathlib.Core.Bool.{Bool, true, false, not, _&&_, _||_}
+use mathlib.Core.List.{List, [], _∷_, _++_}
+use Prim.Native.Nat.{ℕ, zero, suc, _+_, _*_, _/_, _≤_, _<_}
+use native.Mathlib.Nat.{zero-mul, div-mul-le-self}
+use native.Mathlib.Omega.{arith}
+use lib.Arith.{digits-mod, digits-div}
+use lib.Dec.{T, eqb, ltb}
+use lib.ListN.{length, getD, take, drop, length-drop}
+use lib.Seq.{drop-drop, getD-take, getD-drop}
+use Rattle.base.specs.Pick.{pick}
+use Rattle.base.specs.Refusals.{Told, done, refused, IsDone}
+use Rattle.base.proofs.Picks.{pick-yes, pick-no, pick-cases}
+use Rattle.word.specs.declared.Command.{Command}
+use Rattle.word.specs.declared.Command.the-variants.{NoOperation, BarLevel, SegmentClear, SegmentSet, Reset, Sleep, ShiftLeft, ShiftRight, RotateLeft, RotateRight, CustomCharacter, SystemParameters, DisplayParameters, BlinkByte, ReadKey, LoadDigit}
+use Rattle.word.specs.Words.{decodedOf}
+use Rattle.chip.specs.declared.Chip.{Chip}
+use Rattle.chip.specs.declared.Settings.{Settings}
+use Rattle.chip.specs.Record.{Body, bodyOf}
+use Rattle.chip.specs.Commands.{applied, obey, reset, system, readKey}
+use Rattle.chip.specs.Edges.{din, loadRises, stepped, clocked, loaded}
+use Rattle.chip.specs.Scans.{recordedBy, result}
+use Rattle.chip.specs.Segments.{litDigit, limitOf}
+use Rattle.chip.specs.History.{Step, after}
+use Rattle.chip.proofs.Quiet.{keyb-scanned}
+use Rattle.chain.specs.declared.Chain.{Chain}
+use Rattle.chain.specs.Chain.{most, steppedRow, steppedChain, played}
+use Rattle.chain.specs.Entries.{chipAt, playedOf}
+use Rattle.chain.specs.Events.{Event, sample, scan, scanAt, happened, samplesIn, ScansBelow}
+use Rattle.chain.proofs.Clocks.{Held, heldRow, held}
+use Rattle.chain.proofs.Histories.{happened-append}
+use Rattle.writer.specs.Lights.{asleep, saidWith, saidBy, saidOf, offAfter, offBefore, maySleep, litSleep}
+use Rattle.writer.specs.Rows.{cutRows, rowsOf, wordBits, rowBits, clocking, rowSamples, samplesOf, written, wordTest, sleepTest, wordsFrom, listTest}
+use Rattle.writer.proofs.Tests.{passed-next, list-passed}
+use Rattle.demands.specs.Events.{wordFor, commandOf, toldAt, rowsAfter, stepsFor}
+use Rattle.demands.specs.Demand3.{Asked}
+use Rattle.demands.specs.Calls.{eventsOf}
+use Rattle.demands.specs.Asleep.{SwitchedDark, DarkBeforeSleep, DarkBeforeSleepOfCalls, SomeSleep}
+use Rattle.demands.proofs.Accepted.{Fit, Fits}
+use Rattle.demands.proofs.Calls.{written-part, samples-blocks, block-played, demand-3-of-calls}
+use Rattle.demands.proofs.Corollaries.{meanings, in-between}
+use Rattle.demands.proofs.Demand3.{room, demand-3}
+use Rattle.demands.proofs.Going.{after-append, rowsLeft, as-told}
+use Rattle.demands.proofs.Writes.{AtSample}
+
+-- ---- a chip that is switched off
+
+-- DISP and KEYB are 0
+abbrev BothOff : Chip → Type 0
+BothOff c = (c .settings .system .keyb ≡ false) × (c .settings .system .disp ≡ false)
+
+dark-digit : (s : Settings) (dig byte : ℕ) → s .system .disp ≡ false → litDigit s dig byte ≡ 0
+unfolding litDigit
+dark-digit s dig byte e = pick-yes _ _ (ap (λ b. not b || s .sleeping || not (ltb dig (limitOf (s .display .limit)))) e)
+
+both-off : (c : Chip) → BothOff c → SwitchedDark c
+unfolding recordedBy
+both-off c y =
+    record {
+      disp = y .1;
+      keyb = y .0;
+      showsNothing = rw (dark-digit (c .settings) 0 _ (y .1), dark-digit (c .settings) 1 _ (y .1), dark-digit (c .settings) 2 _ (y .1), dark-digit (c .settings) 3 _ (y .1), dark-digit (c .settings) 4 _ (y .1), dark-digit (c .settings) 5 _ (y .1), dark-digit (c .settings) 6 _ (y .1), dark-digit (c .settings) 7 _ (y .1));
+      takesNoKeys = λ bytes. pick-no _ _ (never (c .settings .sleeping) (y .0));
+    }
+  where
+    never : (b : Bool) {k : Bool} → k ≡ false → (not b && k) ≡ false
+    never true e = refl
+    never false e = e
+
+-- ---- one command
+
+-- both are off, where that is what was said last
+abbrev Holds : Bool → Chip → Type 0
+Holds said c = said ≡ true → BothOff c
+
+never-true : {A : Type 0} → false ≡ true → A
+never-true e = absurd (subst T (sym e) tt)
+
+applied-off : (command : Command) (c : Chip) (before : Bool) → Holds before c → Holds (offAfter (saidBy command) before) (applied command c)
+unfolding applied obey reset system readKey
+applied-off NoOperation c b h = h
+applied-off (BarLevel level) c b h = h
+applied-off (SegmentClear addr) c b h = h
+applied-off (SegmentSet addr) c b h = h
+applied-off Reset c b h = λ e. (refl, refl)
+applied-off Sleep c b h = h
+applied-off ShiftLeft c b h = h
+applied-off ShiftRight c b h = h
+applied-off RotateLeft c b h = h
+applied-off RotateRight c b h = h
+applied-off (CustomCharacter shape) c b h = h
+applied-off (SystemParameters s) c b h =
+    λ e. let both = go (s .keyb) (s .disp) e in pick-cases BothOff (s .keyb) (λ q. both) (λ q. both)
+  where
+    go : (k d : Bool) → offAfter (saidWith k d) b ≡ true → (k ≡ false) × (d ≡ false)
+    go true d e = never-true e
+    go false true e = never-true e
+    go false false e = (refl, refl)
+applied-off (DisplayParameters d) c b h = h
+applied-off (BlinkByte byte) c b h = h
+applied-off ReadKey c b h = λ e. pick-cases BothOff (c .settings .system .keyb) (λ q. h e) (λ q. h e)
+applied-off (LoadDigit dig byte) c b h = h
+
+asleep-said : (command : Command) (c : Chip) → applied command c .settings .sleeping ≡ true → saidBy command ≡ asleep
+unfolding applied obey reset system readKey
+asleep-said NoOperation c e = never-true e
+asleep-said (BarLevel level) c e = never-true e
+asleep-said (SegmentClear addr) c e = never-true e
+asleep-said (SegmentSet addr) c e = never-true e
+asleep-said Reset c e = never-true e
+asleep-said Sleep c e = refl
+asleep-said ShiftLeft c e = never-true e
+asleep-said ShiftRight c e = never-true e
+asleep-said RotateLeft c e = never-true e
+asleep-said RotateRight c e = never-true e
+asleep-said (CustomCharacter shape) c e = never-true e
+asleep-said (SystemParameters s) c e = never-true (pick-cases (λ (x : Chip). x .settings .sleeping ≡ true → false ≡ true) (s .keyb) (λ q f. f) (λ q f. f) e)
+asleep-said (DisplayParameters d) c e = never-true e
+asleep-said (BlinkByte byte) c e = never-true e
+asleep-said ReadKey c e = never-true (pick-cases (λ (x : Chip). x .settings .sleeping ≡ true → false ≡ true) (c .settings .system .keyb) (λ q f. f) (λ q f. f) e)
+asleep-said (LoadDigit dig byte) c e = never-true e
+
+-- ---- a chip's own commands and scans
+
+-- of meanings of words, one after another, given whether both were said to be off before: each sleep word stands where they were
+abbrev Allowed : Bool → List (Told Command) → Type 0
+Allowed said [] = Unit {0}
+Allowed said (means ∷ more) = (litSleep (saidOf means) said ≡ false) × Allowed (offAfter (saidOf means) said) more
+
+-- what is said, the meanings to come allowed, and the chip as it was said
+abbrev Goes : List (Told Command) → Chip → Type 0
+Goes more c = (said : Bool) × Allowed said more × Holds said c
+
+word-step : (means : Told Command) (more : List (Told Command)) (c : Chip) → Goes (means ∷ more) c → Goes more (after (commandOf means) c)
+word-step (done command) more c (said, allowed, holds) = (offAfter (saidBy command) said, allowed .1, applied-off command c said holds)
+word-step (refused number place) more c (said, allowed, holds) = (said, allowed .1, holds)
+
+sample-step : (k : ℕ) (rises : Bool) (rows : List (List ℕ)) (c : Chip) → Goes (meanings k rows) c
+    → Goes (meanings k (rowsAfter rises rows)) (after (toldAt k rises rows) c)
+sample-step k false rows c g = g
+sample-step k true [] c g = g
+sample-step k true (row ∷ rows) c g = word-step (decodedOf (wordFor k row)) (meanings k rows) c g
+
+scan-step : (k j : ℕ) (bytes : List ℕ) (more : List (Told Command)) (c : Chip) → Goes more c → Goes more (after (scanAt k j bytes) c)
+scan-step k j bytes more c (said, allowed, holds) = (
+  said,
+  allowed,
+  λ e.
+      pick-cases (λ (steps : List Step). BothOff (after steps c)) (eqb j k)
+      (λ q. let same = keyb-scanned (result bytes) c in (ap (λ s. s .keyb) same ∙ holds e .0, ap (λ s. s .disp) same ∙ holds e .1)) (λ q. holds e),
+)
+
+lights-kept : (k was : ℕ) (rows : List (List ℕ)) (es : List Event) (c : Chip) → Goes (meanings k rows) c
+    → Goes (meanings k (rowsLeft was rows es)) (after (stepsFor k was rows es) c)
+lights-kept k was rows [] c g = g
+lights-kept k was rows (sample s ∷ es) c g =
+    let told = toldAt k (loadRises was s) rows in
+    let left = rowsAfter (loadRises was s) rows in
+    subst (Goes (meanings k (rowsLeft s left es))) (sym (after-append told (stepsFor k s left es) c))
+    (lights-kept k s left es (after told c) (sample-step k (loadRises was s) rows c g))
+lights-kept k was rows (scan j bytes ∷ es) c g =
+    subst (Goes (meanings k (rowsLeft was rows es))) (sym (after-append (scanAt k j bytes) (stepsFor k was rows es) c))
+    (lights-kept k was rows es (after (scanAt k j bytes) c) (scan-step k j bytes (meanings k rows) c g))
+
+-- ---- an accepted list
+
+-- so many rows, from row m on
+from-row : (count m n k : ℕ) (ws vs : List ℕ) → k < n → vs ≡ drop (m * n) ws → count * n ≤ length vs
+    → ((p : ℕ) → p < length ws → litSleep (saidOf (decodedOf (getD ws p 0))) (maySleep n ws p) ≡ false)
+    → Allowed (offBefore n ws k m) (meanings k (cutRows count n vs))
+unfolding cutRows offBefore
+from-row zero m n k ws vs h e l each = tt
+from-row (suc count) m n k ws vs h e l each = (
+  subst (λ w. litSleep (saidOf (decodedOf w)) (offBefore n ws k m) ≡ false) word
+      (subst (λ b. litSleep (saidOf (decodedOf (getD ws (m * n + k) 0))) b ≡ false) (ap₂ (offBefore n ws) (digits-mod m h) (digits-div m h))
+      (each (m * n + k) (omega (arith, length-drop (m * n) ws, ap length e)))),
+  subst (λ w. Allowed (offAfter (saidOf (decodedOf w)) (offBefore n ws k m)) (meanings k (cutRows count n (drop n vs)))) word
+      (from-row count (suc m) n k ws (drop n vs) h (ap (drop n) e ∙ drop-drop n (m * n) ws ∙ ap (λ x. drop x ws) next) (simp length-drop (omega arith)) each),
+)
+  where
+    word : getD ws (m * n + k) 0 ≡ wordFor k (take n vs)
+    word = sym (getD-take n vs k 0 h ∙ ap (λ xs. getD xs k 0) e ∙ getD-drop (m * n) ws k 0)
+
+    next : m * n + n ≡ suc m * n
+    next = omega arith
+
+rows-allowed : (n : ℕ) (ws : List ℕ) → listTest n ws ≡ done tt → (k : ℕ) → k < n → Allowed false (meanings k (rowsOf n ws))
+unfolding offBefore
+rows-allowed n ws accepted k h =
+    from-row (length ws / n) 0 n k ws ws h (ap (λ x. drop x ws) (sym (zero-mul n))) (div-mul-le-self (length ws) n)
+    (λ p l.
+    let means = decodedOf (getD ws p 0) in
+    not-refused (litSleep (saidOf means) (maySleep n ws p)) p
+    (passed-next (wordTest n p means) (sleepTest n ws p means) (list-passed n ws accepted .each p l)))
+  where
+    not-refused : (b : Bool) (place : ℕ) → IsDone {A = Unit {0}} (pick b (refused 13 place) (done tt)) → b ≡ false
+    not-refused true place y = absurd y
+    not-refused false place y = refl
+
+-- ---- the theorem
+
+-- at a LOAD rise that finds a row, a chip that sleeps after it was told sleep, and so both were said to be off
+at-rise : (n k : ℕ) (rows : List (List ℕ)) (hs : List Held) (c : Chip) → k < n → AtSample true rows hs → Fits n rows → (said : Bool) → Allowed said (meanings k rows)
+    → after (toldAt k true rows ++ []) c .settings .sleeping ≡ true
+    → said ≡ true
+at-rise n k [] hs c h a f said allowed e = absurd a
+at-rise n k (row ∷ rows) hs c h a f said allowed e = go (decodedOf (wordFor k row)) (f .0 .words k h) (allowed .0) e
+  where
+    off : (b : Bool) → not b ≡ false → b ≡ true
+    off true q = refl
+    off false q = never-true (sym q)
+
+    go : (means : Told Command) → Fit n k means → litSleep (saidOf means) said ≡ false → after (commandOf means ++ []) c .settings .sleeping ≡ true → said ≡ true
+    go (done command) fit q z = off said (sym (ap (λ s. litSleep s said) (asleep-said command c z)) ∙ q)
+    go (refused number place) fit q z = absurd fit
+
+module _ (n : ℕ) (ch : Chain) (ws : List ℕ) (asked : Asked n ch ws) (es : List Event) (s : ℕ) (rest : List ℕ)
+    (below : ScansBelow n es) (whole : samplesIn es ++ (s ∷ rest) ≡ written n ws) where
+  abbrev before : Chain
+  before = happened n es ch
+
+  dark-before : loadRises (before .levels) s ≡ true → (k : ℕ) → k < n → chipAt k (steppedChain n s before) .settings .sleeping ≡ true
+      → SwitchedDark (chipAt k before)
+  dark-before rises k h sleeps =
+      let left = rowsLeft (ch .levels) (rowsOf n ws) es in
+      let going = in-between n ch ws asked es (s ∷ rest) whole in
+      let goes = lights-kept k (ch .levels) (rowsOf n ws) es (chipAt k ch) (false, rows-allowed n ws (asked .accepted) k h, never-true) in
+      let next = as-told n most (room n ch ws asked) (sample s ∷ []) rest before left going tt k h in
+      let told = subst (λ b. bodyOf (chipAt k (steppedChain n s before)) ≡ bodyOf (after (toldAt k b left ++ []) (chipAt k before))) rises next in
+      let found = subst (λ b. AtSample b left (heldRow (before .levels) s (din s) (held n (before .chips)))) rises (going .writes .1) in
+      let said = at-rise n k left _ (chipAt k before) h found (going .fit) (goes .0) (goes .1) (sym (ap (λ (b : Body). b .settings .sleeping) told) ∙ sleeps) in
+      let off = goes .2 said in
+      let same = ap (λ (b : Body). b .settings .system) (demand-3 n ch ws asked es (s ∷ rest) below whole k h) in
+      both-off (chipAt k before) (ap (λ y. y .keyb) same ∙ off .0, ap (λ y. y .disp) same ∙ off .1)
+
+pub dark-before-sleep : DarkBeforeSleep
+dark-before-sleep n ch ws asked es s rest below whole rises k h sleeps =
+    dark-before n ch ws asked es s rest below whole rises k h
+    (subst (λ x. chipAt k x .settings .sleeping ≡ true) (happened-append n es (sample s ∷ []) ch) sleeps)
+
+pub dark-before-sleep-of-calls : DarkBeforeSleepOfCalls
+dark-before-sleep-of-calls n ch ws a out out′ r count w e calls s rest below whole ch′ ran next contract rises k h sleeps =
+    let p = written-part n ws out out′ r count w e in
+    let asked : Asked n ch ws = record { chain = a; accepted = p .0 } in
+    let es = eventsOf calls in
+    let samples = ap (λ ss. ss ++ (s ∷ rest)) (samples-blocks calls) ∙ whole ∙ p .1 in
+    let same : ch′ ≡ happened n es ch = demand-3-of-calls n ch ws a out out′ r count w e calls (s ∷ rest) below whole ch′ ran .chain in
+    let played = block-played n (room n ch ws asked) (a .panel .count) (s ∷ []) rest (happened n es ch) _ (in-between n ch ws asked es (s ∷ rest) samples) .0 in
+    let after-it : next .chain ≡ steppedChain n s (happened n es ch) = ap (λ o. o .state) (contract ∙ ap (λ x. playedOf n x (s ∷ [])) same ∙ played) in
+    subst (λ x. SwitchedDark (chipAt k x)) (sym same)
+    (dark-before n ch ws asked es s rest below samples (subst (λ x. loadRises (x .levels) s ≡ true) same rises) k h
+    (subst (λ x. chipAt k x .settings .sleeping ≡ true) after-it sleeps))
+
+pub some-sleep : SomeSleep
+unfolding listTest wordsFrom decodedOf offBefore cutRows samplesOf rowSamples rowBits wordBits clocking played steppedRow stepped clocked loaded applied obey reset
+some-sleep = (refl, refl)
