@@ -52,8 +52,8 @@ static const struct side sides[2] = {
     { twin_decode, twin_encode, twin_write, twin_find, twin_replay, twin_ch450_encode, twin_ch450_write, play_record },
 };
 
-static unsigned short words[ROWS * CHIPS];
-static unsigned char samples[ROWS * ZHAQSUMIR_ROW_SAMPLES(CHIPS)], block[BLOCK];
+static unsigned short words[ROWS * CHIPS], sleeping[ROWS * CHIPS];
+static unsigned char samples[ROWS * ZHAQSUMIR_ROW_SAMPLES(CHIPS)], slept[sizeof samples], block[BLOCK];
 static unsigned long commands[4096][ZHAQSUMIR_COMMAND], legal;
 static unsigned char text[ZHAQSUMIR_MOST_TEXT + 1], of_rows[ZHAQSUMIR_MOST_TEXT], out[ZHAQSUMIR_REPLAY_ROOM];
 static unsigned long length, length_of_rows;
@@ -68,6 +68,15 @@ static unsigned long write_rows(const struct side *side)
 
     side->write(CHIPS, words, ROWS * CHIPS, samples, sizeof samples, answer);
     return answer[0] + answer[2] + samples[sizeof samples / 2];
+}
+
+/* The most that a list can ask of the writer's test: each sleep word looks back through all the rows to the resets. */
+static unsigned long write_sleep(const struct side *side)
+{
+    unsigned long answer[ZHAQSUMIR_WRITE_ANSWER];
+
+    side->write(CHIPS, sleeping, ROWS * CHIPS, slept, sizeof slept, answer);
+    return answer[0] + answer[2] + slept[sizeof slept / 2];
 }
 
 static unsigned long find_none(const struct side *side)
@@ -162,6 +171,7 @@ static const struct job {
     unsigned long (*work)(const struct side *);
 } jobs[] = {
     { "write: 64 rows of 8 chips", write_rows },
+    { "write: a row of resets, 63 rows of sleep", write_sleep },
     { "find: 65,536 samples without a rise", find_none },
     { "find: rise by rise through 12,416 written samples", find_rises },
     { "decode: all 4,096 words", decode_all },
@@ -194,14 +204,15 @@ static int prepare(const char *name)
         if (answer[0] == 0)
             memcpy(commands[legal++], answer + 2, sizeof commands[0]);
     }
-    for (i = 0; i < ROWS * CHIPS; i++) {                                        /* listed words of every kind, no KEYB */
+    for (i = 0; i < ROWS * CHIPS; i++) {                                        /* listed words of every kind but sleep, no KEYB */
         unsigned long encoded[ZHAQSUMIR_ENCODE_ANSWER];
 
         do {
             seed = seed * 6364136223846793005 + 1442695040888963407;
             twin_encode(commands[(seed >> 33) % legal], encoded);
-        } while ((encoded[2] & 0xFC2) == 0x402);
+        } while ((encoded[2] & 0xFC2) == 0x402 || encoded[2] == 0x202);
         words[i] = (unsigned short)encoded[2];
+        sleeping[i] = i < CHIPS ? 0x201 : 0x202;
     }
     twin_write(CHIPS, words, ROWS * CHIPS, samples, sizeof samples, answer);
     memcpy(of_rows, "000108", 6);

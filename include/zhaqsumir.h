@@ -85,6 +85,7 @@ enum {
     ZHAQSUMIR_BAD_LEVELS = 12,   /* the levels given are above 7 */
     ZHAQSUMIR_BAD_LARGEST = 12,  /* a tally's largest N is above 8 */
     ZHAQSUMIR_BAD_PANEL = 12,    /* the numbers are of no panel that a CH450 can have */
+    ZHAQSUMIR_LIT_SLEEP = 13,    /* a sleep word for a chip whose display and keypad weren't switched off before it in the same list */
     ZHAQSUMIR_FULL_COUNT = 16    /* some count of a tally plus the line's number of samples and scans is above 2^64 - 1 */
 };
 
@@ -197,8 +198,11 @@ void zhaqsumir_encode(const unsigned long command[6], unsigned long answer[3]);
  * many, one row after another from the front of out. Bytes past the written ones keep what they hold.
  * answer: the refusal, the place, the samples written.
  * Refused, where several hold the first of them: BAD_CHIPS (3); PART_ROW (4); MANY_ROWS (5); then, from the first word on, BAD_WORD
- * (6) or EARLY_KEYPAD (7), with the place of that word in words; SHORT_BUFFER (8). Then out is left whole as it was, and 0 samples
- * are written. */
+ * (6), EARLY_KEYPAD (7) or LIT_SLEEP (13), with the place of that word in words; SHORT_BUFFER (8). Then out is left whole as it was,
+ * and 0 samples are written.
+ * LIT_SLEEP is for a sleep word (202H), unless the nearest earlier word in words for the same chip that is a reset (201H) or system
+ * parameters is there, and is a reset or has KEYB 0 and DISP 0. INTM, SSPD and DPLR may be anything, sleep words between count as
+ * neither, and what an earlier call wrote doesn't count. So switch a chip off and put it to sleep in one call: 400H, then 202H. */
 void zhaqsumir_write(unsigned long n, const unsigned short *words, unsigned long count,
                      unsigned char *out, unsigned long room, unsigned long answer[3]);
 

@@ -77,14 +77,27 @@ def key_of(code):
     return "key %02XH (%s)" % (code - 0x40, place_of(code - 0x40))
 
 
+# what is on where a chip is put to sleep, by KEYB and DISP, the low two bits of its last system word
+STILL_ON = ("", "its display is", "its keypad is", "its display and its keypad are")
+
+
 def explained(lines, refused):
     """The lines of `replay` and their meanings. What is lost where a code is recorded over an unread one is the code that the same chip
-    recorded last (theorem `lost-is-last`): an interrupt stands from a record on, until it is read or cleared."""
+    recorded last (theorem `lost-is-last`): an interrupt stands from a record on, until it is read or cleared. Where a chip is put to
+    sleep with its display or its keypad on, by its own reset and system words since the start, that is said."""
     last_code = {}
+    still_on = {}
     for line in lines:
         frame = bytes.fromhex(line)
         if frame[0] == 0x10:
-            text = "chip %d: %s" % (frame[1], meaning(frame[2] << 8 | frame[3]))
+            chip, word = frame[1], frame[2] << 8 | frame[3]
+            text = "chip %d: %s" % (chip, meaning(word))
+            if word == 0x201:
+                still_on[chip] = 0
+            elif 0x400 <= word < 0x440 and not word & 4:
+                still_on[chip] = word & 3
+            elif word == 0x202 and still_on.get(chip):
+                text += ", and %s still on; the writer refuses such a word (13)" % STILL_ON[still_on[chip]]
         elif frame[0] in (0x11, 0x12):
             chip, code = frame[1], frame[2]
             text = "chip %d: %s recorded, code %02XH" % (chip, key_of(code), code)

@@ -211,7 +211,7 @@ void report(const struct seen *seen, const unsigned char refusals[], unsigned lo
     printf("\n");
     for (i = 0; refusals[i] != 0; i++) {
         unsigned number = refusals[i];
-        int placed = number == 1 || number == 6 || number == 7;
+        int placed = number == 1 || number == 6 || number == 7 || number == 13;
 
         if (seen->times[number] == 0 || (placed && seen->farthest[number] < far_on)) {
             printf("WRONG: %s, refusal %u was never reached, or never far on\n", seen->name, number);

@@ -10,13 +10,14 @@ static struct stretch answers, buffers;
 
 /* ---- random words ---- */
 
+/* Any but sleep, which may not stand everywhere. */
 static unsigned short listed_word(void)
 {
-    static const unsigned long plain[] = { 0x000, 0x100, 0x140, 0x141, 0x17F, 0x180, 0x1BF, 0x1C0, 0x1FF, 0x201, 0x202, 0x300, 0x301,
-                                           0x302, 0x303, 0x380, 0x3FF, 0x400, 0x401, 0x500, 0x5F0, 0x600, 0x700, 0x800, 0xA79, 0xFFF };
+    static const unsigned long plain[] = { 0x000, 0x100, 0x140, 0x141, 0x17F, 0x180, 0x1BF, 0x1C0, 0x1FF, 0x201, 0x300, 0x301, 0x302,
+                                           0x303, 0x380, 0x3FF, 0x400, 0x401, 0x500, 0x5F0, 0x600, 0x700, 0x800, 0xA79, 0xFFF };
     switch (below(8)) {
     case 0:
-        return (unsigned short)one_of(26, plain);
+        return (unsigned short)one_of(25, plain);
     case 1:
         return (unsigned short)(0x100 + below(128));
     case 2:
@@ -53,10 +54,23 @@ static unsigned short unlisted_word(void)
     }
 }
 
+enum { SLEEP_WORD = 0x202 };
+
+/* One that a chip may be sent before sleep, or, once in so many times, one that leaves its display or its keypad on. */
+static unsigned short before_sleep(unsigned long lit)
+{
+    static const unsigned long on[] = { 0x401, 0x402, 0x403 };
+
+    if (once_in(lit))
+        return (unsigned short)(one_of(3, on) + (below(64) & 0x38));
+    return (unsigned short)(once_in(2) ? 0x201 : 0x400 + (below(64) & 0x38));
+}
+
 /* ---- the writer ---- */
 
 static struct seen written = { .name = "write" };
 static struct fence lists;
+static unsigned long slept, nothing_but_sleep;          /* lists with sleep words that were accepted, and those of little else */
 
 static unsigned long chips(void)
 {
@@ -82,6 +96,25 @@ static unsigned long rows(void)
     }
 }
 
+/* Puts one chip to sleep, some rows after a word that may stand before it: sleep words, and words that say nothing of the lights. */
+static void put_to_sleep(unsigned long width, unsigned long count, unsigned short *words)
+{
+    unsigned long at = place_in(count), left = 1 + below(once_in(4) ? 64 : 5);
+
+    words[at] = before_sleep(16);
+    for (at += width; at < count && left > 0; at += width, left--)
+        words[at] = (unsigned short)(once_in(2) ? SLEEP_WORD : once_in(2) ? 0x800 + below(2048) : below(256));
+}
+
+/* For every chip a word that may stand before sleep, then sleep words and few others. */
+static void sleep_all(unsigned long width, unsigned long count, unsigned short *words)
+{
+    unsigned long i;
+
+    for (i = 0; i < count; i++)
+        words[i] = i < width ? before_sleep(64) : once_in(200) ? before_sleep(8) : once_in(20) ? listed_word() : SLEEP_WORD;
+}
+
 static unsigned long list(unsigned long n, unsigned short words[MOST_WORDS])
 {
     unsigned long width = n >= 1 && n <= MOST ? n : 1 + below(MOST);
@@ -93,9 +126,13 @@ static unsigned long list(unsigned long n, unsigned short words[MOST_WORDS])
         count = below(MOST_WORDS + 1);
     for (i = 0; i < count; i++)
         words[i] = i % width == width - 1 && once_in(4) ? keypad_word() : listed_word();
-    if (count > 0 && !once_in(3)) {                     /* at times none wrong, or one, or several of both sorts */
+    if (once_in(16))
+        sleep_all(width, count, words);
+    while (count > 0 && once_in(2))
+        put_to_sleep(width, count, words);
+    if (count > 0 && !once_in(3)) {                     /* at times none wrong, or one, or several of all sorts */
         for (i = 0; i < wrong; i++)
-            words[place_in(count)] = once_in(2) ? keypad_word() : unlisted_word();
+            words[place_in(count)] = once_in(3) ? SLEEP_WORD : once_in(2) ? keypad_word() : unlisted_word();
     }
     return count;
 }
@@ -124,6 +161,42 @@ static void write_one(void)
         show(&answers);
     }
     count_answer(&written, want[0], want[1]);
+    if (want[0] == 0) {
+        unsigned long sleeps = 0, i;
+
+        for (i = 0; i < count; i++)
+            sleeps += words[i] == SLEEP_WORD;
+        slept += sleeps > 0;
+        nothing_but_sleep += sleeps > 200;
+    }
+}
+
+/* C-17's own cases, by hand. */
+static void sleep_cases(void)
+{
+    static const struct {
+        unsigned long n, count, number, place;
+        unsigned short words[4];
+    } cases[] = {
+        { 1, 1, 13, 0, { 0x202 } },
+        { 1, 3, 0, 0, { 0x400, 0x202, 0x202 } },
+        { 1, 2, 13, 1, { 0x401, 0x202 } },
+        { 1, 2, 13, 1, { 0x402, 0x202 } },
+        { 1, 2, 0, 0, { 0x438, 0x202 } },
+        { 1, 3, 13, 2, { 0x201, 0x403, 0x202 } },
+        { 1, 3, 0, 0, { 0x403, 0x201, 0x202 } },
+        { 2, 4, 13, 2, { 0x000, 0x201, 0x202, 0x000 } },
+        { 2, 4, 0, 0, { 0x201, 0x403, 0x202, 0x000 } },
+        { 1, 1, 6, 0, { 0x1202 } },
+    };
+    unsigned long i, answer[3];
+    unsigned char out[128];
+
+    for (i = 0; i < sizeof cases / sizeof cases[0]; i++) {
+        zhaqsumir_write(cases[i].n, cases[i].words, cases[i].count, out, sizeof out, answer);
+        if (answer[0] != cases[i].number || answer[1] != cases[i].place)
+            fault("write", i, "another answer than the request has (the input is the case of sleep)");
+    }
 }
 
 /* ---- the finder ---- */
@@ -196,16 +269,19 @@ static void find_one(void)
 
 void compare_samples(unsigned long count)
 {
-    static const unsigned char of_write[] = { 3, 4, 5, 6, 7, 8, 0 }, of_find[] = { 1, 12, 0 };
+    static const unsigned char of_write[] = { 3, 4, 5, 6, 7, 8, 13, 0 }, of_find[] = { 1, 12, 0 };
     unsigned long i;
 
     answers = stretched(5 * sizeof(unsigned long));
     buffers = stretched(MOST_ROOM);
     lists = fenced(MOST_WORDS * sizeof(unsigned short));
     blocks = fenced(MOST_SAMPLES);
+    sleep_cases();
     for (i = 0; i < count; i++)
         write_one();
     report(&written, of_write, 400);
+    printf("    accepted with sleep words: %lu, of little else: %lu\n", slept, nothing_but_sleep);
+    must(slept > 0 && nothing_but_sleep > 0, "no list with sleep words was accepted, or none of little else");
     for (i = 0; i < count; i++)
         find_one();
     report(&found, of_find, 4000);

@@ -32,6 +32,7 @@ static unsigned char *write_row(unsigned long n, const unsigned short *row, unsi
 void twin_write(unsigned long n, const unsigned short *words, unsigned long count,
                 unsigned char *out, unsigned long room, unsigned long answer[3])
 {
+    unsigned char off[MOST] = { 0 };                    /* whether the chip's last reset or system word so far left nothing on */
     unsigned long samples, i;
 
     if (n < 1 || n > MOST) {
@@ -55,6 +56,14 @@ void twin_write(unsigned long n, const unsigned short *words, unsigned long coun
         }
         if (kind == SYSTEM && field(words[i], SYSTEM, KEYB) && i % n != n - 1) {
             refuse(answer, 3, 7, i);
+            return;
+        }
+        if (kind == RESET)
+            off[i % n] = 1;
+        if (kind == SYSTEM)
+            off[i % n] = !field(words[i], SYSTEM, KEYB) && !field(words[i], SYSTEM, DISP);
+        if (kind == SLEEP && !off[i % n]) {             /* C-17: no sleep with the lights on */
+            refuse(answer, 3, 13, i);
             return;
         }
     }
