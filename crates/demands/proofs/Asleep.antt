@@ -1,6 +1,7 @@
 -- C-17, what the rule is for, from the play: by demand 3 each chip is as after its own commands, and the rule speaks of these.
 --     both-off                          a chip with DISP 0 and KEYB 0 shows nothing and takes no keys
---     applied-off, asleep-said          what a command leaves of both, and which command puts a chip to sleep
+--     applied-settings                  what a command leaves of the system bits and the sleeping mark
+--     applied-off, asleep-said          so what it leaves of both, and which command puts a chip to sleep
 --     lights-kept                       both are off after any events, where that is what the chip was told last
 --     rows-allowed                      of an accepted list, each chip's sleep words stand where both were said to be off
 --     dark-before-sleep                 the theorem
@@ -13,6 +14,7 @@ use mathlib.Core.List.{List, [], _∷_, _++_}
 use Prim.Native.Nat.{ℕ, zero, suc, _+_, _*_, _/_, _≤_, _<_}
 use native.Mathlib.Nat.{zero-mul, div-mul-le-self}
 use native.Mathlib.Omega.{arith}
+use borrow.Author.Tests.{not-false}
 use lib.Arith.{digits-mod, digits-div}
 use lib.Dec.{T, eqb, ltb}
 use lib.ListN.{length, getD, take, drop, length-drop}
@@ -20,12 +22,13 @@ use lib.Seq.{drop-drop, getD-take, getD-drop}
 use Rattle.base.specs.Pick.{pick}
 use Rattle.base.specs.Refusals.{Told, done, refused, IsDone}
 use Rattle.base.proofs.Picks.{pick-yes, pick-no, pick-cases}
+use Rattle.word.specs.declared.System.{System}
 use Rattle.word.specs.declared.Command.{Command}
 use Rattle.word.specs.declared.Command.the-variants.{NoOperation, BarLevel, SegmentClear, SegmentSet, Reset, Sleep, ShiftLeft, ShiftRight, RotateLeft, RotateRight, CustomCharacter, SystemParameters, DisplayParameters, BlinkByte, ReadKey, LoadDigit}
 use Rattle.word.specs.Words.{decodedOf}
 use Rattle.chip.specs.declared.Chip.{Chip}
 use Rattle.chip.specs.declared.Settings.{Settings}
-use Rattle.chip.specs.Record.{Body, bodyOf}
+use Rattle.chip.specs.Record.{Body, bodyOf, resetSettings}
 use Rattle.chip.specs.Commands.{applied, obey, reset, system, readKey}
 use Rattle.chip.specs.Edges.{din, loadRises, stepped, clocked, loaded}
 use Rattle.chip.specs.Scans.{recordedBy, result}
@@ -38,7 +41,7 @@ use Rattle.chain.specs.Entries.{chipAt, playedOf}
 use Rattle.chain.specs.Events.{Event, sample, scan, scanAt, happened, samplesIn, ScansBelow}
 use Rattle.chain.proofs.Clocks.{Held, heldRow, held}
 use Rattle.chain.proofs.Histories.{happened-append}
-use Rattle.writer.specs.Lights.{asleep, saidWith, saidBy, saidOf, offAfter, offBefore, maySleep, litSleep}
+use Rattle.writer.specs.Lights.{Said, off, asleep, unsaid, saidWith, saidBy, saidOf, offAfter, offBefore, maySleep, litSleep}
 use Rattle.writer.specs.Rows.{cutRows, rowsOf, wordBits, rowBits, clocking, rowSamples, samplesOf, written, wordTest, sleepTest, wordsFrom, listTest}
 use Rattle.writer.proofs.Tests.{passed-next, list-passed}
 use Rattle.demands.specs.Events.{wordFor, commandOf, toldAt, rowsAfter, stepsFor}
@@ -54,21 +57,22 @@ use Rattle.demands.proofs.Writes.{AtSample}
 
 -- ---- a chip that is switched off
 
--- DISP and KEYB are 0
-abbrev BothOff : Chip → Type 0
-BothOff c = (c .settings .system .keyb ≡ false) × (c .settings .system .disp ≡ false)
+-- KEYB and DISP are 0
+abbrev BothOff : System → Type 0
+BothOff s = (s .keyb ≡ false) × (s .disp ≡ false)
 
 dark-digit : (s : Settings) (dig byte : ℕ) → s .system .disp ≡ false → litDigit s dig byte ≡ 0
 unfolding litDigit
 dark-digit s dig byte e = pick-yes _ _ (ap (λ b. not b || s .sleeping || not (ltb dig (limitOf (s .display .limit)))) e)
 
-both-off : (c : Chip) → BothOff c → SwitchedDark c
+both-off : (c : Chip) → BothOff (c .settings .system) → SwitchedDark c
 unfolding recordedBy
 both-off c y =
+    let dark : (dig byte : ℕ) → litDigit (c .settings) dig byte ≡ 0 = λ dig byte. dark-digit (c .settings) dig byte (y .1) in
     record {
       disp = y .1;
       keyb = y .0;
-      showsNothing = rw (dark-digit (c .settings) 0 _ (y .1), dark-digit (c .settings) 1 _ (y .1), dark-digit (c .settings) 2 _ (y .1), dark-digit (c .settings) 3 _ (y .1), dark-digit (c .settings) 4 _ (y .1), dark-digit (c .settings) 5 _ (y .1), dark-digit (c .settings) 6 _ (y .1), dark-digit (c .settings) 7 _ (y .1));
+      showsNothing = simp dark;
       takesNoKeys = λ bytes. pick-no _ _ (never (c .settings .sleeping) (y .0));
     }
   where
@@ -78,56 +82,52 @@ both-off c y =
 
 -- ---- one command
 
--- both are off, where that is what was said last
-abbrev Holds : Bool → Chip → Type 0
-Holds said c = said ≡ true → BothOff c
+-- what a command says of display and keypad, and what it leaves of the system bits and the sleeping mark: of the sixteen kinds three alone
+-- do something to these; a LOAD rise wakes the chip before
+applied-settings : (Q : Said → System → Bool → Type 0) (command : Command) (c : Chip) → Q unsaid (c .settings .system) false
+    → Q off (resetSettings .system) false
+    → Q asleep (c .settings .system) true
+    → ((s : System) → Q (saidWith (s .keyb) (s .disp)) s false)
+    → Q (saidBy command) (applied command c .settings .system) (applied command c .settings .sleeping)
+unfolding applied obey reset system readKey
+applied-settings Q NoOperation c same anew sleeps parameters = same
+applied-settings Q (BarLevel level) c same anew sleeps parameters = same
+applied-settings Q (SegmentClear addr) c same anew sleeps parameters = same
+applied-settings Q (SegmentSet addr) c same anew sleeps parameters = same
+applied-settings Q Reset c same anew sleeps parameters = anew
+applied-settings Q Sleep c same anew sleeps parameters = sleeps
+applied-settings Q ShiftLeft c same anew sleeps parameters = same
+applied-settings Q ShiftRight c same anew sleeps parameters = same
+applied-settings Q RotateLeft c same anew sleeps parameters = same
+applied-settings Q RotateRight c same anew sleeps parameters = same
+applied-settings Q (CustomCharacter shape) c same anew sleeps parameters = same
+applied-settings Q (SystemParameters s) c same anew sleeps parameters =
+    pick-cases (λ (x : Chip). Q (saidWith (s .keyb) (s .disp)) (x .settings .system) (x .settings .sleeping)) (s .keyb) (λ e. parameters s) (λ e. parameters s)
+applied-settings Q (DisplayParameters d) c same anew sleeps parameters = same
+applied-settings Q (BlinkByte byte) c same anew sleeps parameters = same
+applied-settings Q ReadKey c same anew sleeps parameters =
+    pick-cases (λ (x : Chip). Q unsaid (x .settings .system) (x .settings .sleeping)) (c .settings .system .keyb) (λ e. same) (λ e. same)
+applied-settings Q (LoadDigit dig byte) c same anew sleeps parameters = same
 
 never-true : {A : Type 0} → false ≡ true → A
 never-true e = absurd (subst T (sym e) tt)
 
+-- both are off, where that is what was said last
+abbrev Holds : Bool → Chip → Type 0
+Holds said c = said ≡ true → BothOff (c .settings .system)
+
 applied-off : (command : Command) (c : Chip) (before : Bool) → Holds before c → Holds (offAfter (saidBy command) before) (applied command c)
-unfolding applied obey reset system readKey
-applied-off NoOperation c b h = h
-applied-off (BarLevel level) c b h = h
-applied-off (SegmentClear addr) c b h = h
-applied-off (SegmentSet addr) c b h = h
-applied-off Reset c b h = λ e. (refl, refl)
-applied-off Sleep c b h = h
-applied-off ShiftLeft c b h = h
-applied-off ShiftRight c b h = h
-applied-off RotateLeft c b h = h
-applied-off RotateRight c b h = h
-applied-off (CustomCharacter shape) c b h = h
-applied-off (SystemParameters s) c b h =
-    λ e. let both = go (s .keyb) (s .disp) e in pick-cases BothOff (s .keyb) (λ q. both) (λ q. both)
+applied-off command c before holds =
+    applied-settings (λ says s mark. offAfter says before ≡ true → BothOff s) command c holds (λ e. (refl, refl)) holds
+    (λ s. by-bits (s .keyb) (s .disp))
   where
-    go : (k d : Bool) → offAfter (saidWith k d) b ≡ true → (k ≡ false) × (d ≡ false)
-    go true d e = never-true e
-    go false true e = never-true e
-    go false false e = (refl, refl)
-applied-off (DisplayParameters d) c b h = h
-applied-off (BlinkByte byte) c b h = h
-applied-off ReadKey c b h = λ e. pick-cases BothOff (c .settings .system .keyb) (λ q. h e) (λ q. h e)
-applied-off (LoadDigit dig byte) c b h = h
+    by-bits : (k d : Bool) → offAfter (saidWith k d) before ≡ true → (k ≡ false) × (d ≡ false)
+    by-bits true d e = never-true e
+    by-bits false true e = never-true e
+    by-bits false false e = (refl, refl)
 
 asleep-said : (command : Command) (c : Chip) → applied command c .settings .sleeping ≡ true → saidBy command ≡ asleep
-unfolding applied obey reset system readKey
-asleep-said NoOperation c e = never-true e
-asleep-said (BarLevel level) c e = never-true e
-asleep-said (SegmentClear addr) c e = never-true e
-asleep-said (SegmentSet addr) c e = never-true e
-asleep-said Reset c e = never-true e
-asleep-said Sleep c e = refl
-asleep-said ShiftLeft c e = never-true e
-asleep-said ShiftRight c e = never-true e
-asleep-said RotateLeft c e = never-true e
-asleep-said RotateRight c e = never-true e
-asleep-said (CustomCharacter shape) c e = never-true e
-asleep-said (SystemParameters s) c e = never-true (pick-cases (λ (x : Chip). x .settings .sleeping ≡ true → false ≡ true) (s .keyb) (λ q f. f) (λ q f. f) e)
-asleep-said (DisplayParameters d) c e = never-true e
-asleep-said (BlinkByte byte) c e = never-true e
-asleep-said ReadKey c e = never-true (pick-cases (λ (x : Chip). x .settings .sleeping ≡ true → false ≡ true) (c .settings .system .keyb) (λ q f. f) (λ q f. f) e)
-asleep-said (LoadDigit dig byte) c e = never-true e
+asleep-said command c = applied-settings (λ says s mark. mark ≡ true → says ≡ asleep) command c never-true never-true (λ e. refl) (λ s. never-true)
 
 -- ---- a chip's own commands and scans
 
@@ -155,8 +155,8 @@ scan-step k j bytes more c (said, allowed, holds) = (
   said,
   allowed,
   λ e.
-      pick-cases (λ (steps : List Step). BothOff (after steps c)) (eqb j k)
-      (λ q. let same = keyb-scanned (result bytes) c in (ap (λ s. s .keyb) same ∙ holds e .0, ap (λ s. s .disp) same ∙ holds e .1)) (λ q. holds e),
+      pick-cases (λ (steps : List Step). BothOff (after steps c .settings .system)) (eqb j k)
+      (λ q. subst BothOff (sym (keyb-scanned (result bytes) c)) (holds e)) (λ q. holds e),
 )
 
 lights-kept : (k was : ℕ) (rows : List (List ℕ)) (es : List Event) (c : Chip) → Goes (meanings k rows) c
@@ -215,12 +215,8 @@ at-rise : (n k : ℕ) (rows : List (List ℕ)) (hs : List Held) (c : Chip) → k
 at-rise n k [] hs c h a f said allowed e = absurd a
 at-rise n k (row ∷ rows) hs c h a f said allowed e = go (decodedOf (wordFor k row)) (f .0 .words k h) (allowed .0) e
   where
-    off : (b : Bool) → not b ≡ false → b ≡ true
-    off true q = refl
-    off false q = never-true (sym q)
-
     go : (means : Told Command) → Fit n k means → litSleep (saidOf means) said ≡ false → after (commandOf means ++ []) c .settings .sleeping ≡ true → said ≡ true
-    go (done command) fit q z = off said (sym (ap (λ s. litSleep s said) (asleep-said command c z)) ∙ q)
+    go (done command) fit q z = not-false said (sym (ap (λ s. litSleep s said) (asleep-said command c z)) ∙ q)
     go (refused number place) fit q z = absurd fit
 
 module _ (n : ℕ) (ch : Chain) (ws : List ℕ) (asked : Asked n ch ws) (es : List Event) (s : ℕ) (rest : List ℕ)
@@ -238,9 +234,8 @@ module _ (n : ℕ) (ch : Chain) (ws : List ℕ) (asked : Asked n ch ws) (es : Li
       let told = subst (λ b. bodyOf (chipAt k (steppedChain n s before)) ≡ bodyOf (after (toldAt k b left ++ []) (chipAt k before))) rises next in
       let found = subst (λ b. AtSample b left (heldRow (before .levels) s (din s) (held n (before .chips)))) rises (going .writes .1) in
       let said = at-rise n k left _ (chipAt k before) h found (going .fit) (goes .0) (goes .1) (sym (ap (λ (b : Body). b .settings .sleeping) told) ∙ sleeps) in
-      let off = goes .2 said in
       let same = ap (λ (b : Body). b .settings .system) (demand-3 n ch ws asked es (s ∷ rest) below whole k h) in
-      both-off (chipAt k before) (ap (λ y. y .keyb) same ∙ off .0, ap (λ y. y .disp) same ∙ off .1)
+      both-off (chipAt k before) (subst BothOff (sym same) (goes .2 said))
 
 pub dark-before-sleep : DarkBeforeSleep
 dark-before-sleep n ch ws asked es s rest below whole rises k h sleeps =
