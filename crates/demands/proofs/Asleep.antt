@@ -6,11 +6,11 @@
 --     rows-allowed                      of an accepted list, each chip's sleep words stand where both were said to be off
 --     dark-before-sleep                 the theorem
 --     dark-before-sleep-of-calls        the theorem of calls
---     some-sleep                        there is a chip that it speaks of
+--     some-sleep                        what they ask can be had
 -- Assumes nothing.
 use mathlib.Core.Path.{_≡_, refl, ap, ap₂, sym, subst, _∙_}
 use mathlib.Core.Bool.{Bool, true, false, not, _&&_, _||_}
-use mathlib.Core.List.{List, [], _∷_, _++_}
+use mathlib.Core.List.{List, [], _∷_, _++_, map}
 use Prim.Native.Nat.{ℕ, zero, suc, _+_, _*_, _/_, _≤_, _<_}
 use native.Mathlib.Nat.{zero-mul, div-mul-le-self}
 use native.Mathlib.Omega.{arith}
@@ -36,12 +36,12 @@ use Rattle.chip.specs.Segments.{litDigit, limitOf}
 use Rattle.chip.specs.History.{Step, after}
 use Rattle.chip.proofs.Quiet.{keyb-scanned}
 use Rattle.chain.specs.declared.Chain.{Chain}
-use Rattle.chain.specs.Chain.{most, steppedRow, steppedChain, played}
+use Rattle.chain.specs.Chain.{most, steppedRow, steppedChain}
 use Rattle.chain.specs.Entries.{chipAt, playedOf}
 use Rattle.chain.specs.Events.{Event, sample, scan, scanAt, happened, samplesIn, ScansBelow}
 use Rattle.chain.proofs.Clocks.{Held, heldRow, held}
 use Rattle.chain.proofs.Histories.{happened-append}
-use Rattle.writer.specs.Lights.{Said, off, asleep, unsaid, saidWith, saidBy, saidOf, offAfter, offBefore, maySleep, litSleep}
+use Rattle.writer.specs.Lights.{Said, off, asleep, unsaid, saidByBits, saidByCommand, saidByMeaning, offAfter, offBefore, maySleep, litSleep}
 use Rattle.writer.specs.Rows.{cutRows, rowsOf, wordBits, rowBits, clocking, rowSamples, samplesOf, written, wordTest, sleepTest, wordsFrom, listTest}
 use Rattle.writer.proofs.Tests.{passed-next, list-passed}
 use Rattle.demands.specs.Events.{wordFor, commandOf, toldAt, rowsAfter, stepsFor}
@@ -52,6 +52,7 @@ use Rattle.demands.proofs.Accepted.{Fit, Fits}
 use Rattle.demands.proofs.Calls.{written-part, samples-blocks, block-played, demand-3-of-calls}
 use Rattle.demands.proofs.Corollaries.{meanings, in-between}
 use Rattle.demands.proofs.Demand3.{room, demand-3}
+use Rattle.demands.proofs.Entries.{start-asked}
 use Rattle.demands.proofs.Going.{after-append, rowsLeft, as-told}
 use Rattle.demands.proofs.Writes.{AtSample}
 
@@ -87,8 +88,8 @@ both-off c y =
 applied-settings : (Q : Said → System → Bool → Type 0) (command : Command) (c : Chip) → Q unsaid (c .settings .system) false
     → Q off (resetSettings .system) false
     → Q asleep (c .settings .system) true
-    → ((s : System) → Q (saidWith (s .keyb) (s .disp)) s false)
-    → Q (saidBy command) (applied command c .settings .system) (applied command c .settings .sleeping)
+    → ((s : System) → Q (saidByBits (s .keyb) (s .disp)) s false)
+    → Q (saidByCommand command) (applied command c .settings .system) (applied command c .settings .sleeping)
 unfolding applied obey reset system readKey
 applied-settings Q NoOperation c same anew sleeps parameters = same
 applied-settings Q (BarLevel level) c same anew sleeps parameters = same
@@ -102,7 +103,7 @@ applied-settings Q RotateLeft c same anew sleeps parameters = same
 applied-settings Q RotateRight c same anew sleeps parameters = same
 applied-settings Q (CustomCharacter shape) c same anew sleeps parameters = same
 applied-settings Q (SystemParameters s) c same anew sleeps parameters =
-    pick-cases (λ (x : Chip). Q (saidWith (s .keyb) (s .disp)) (x .settings .system) (x .settings .sleeping)) (s .keyb) (λ e. parameters s) (λ e. parameters s)
+    pick-cases (λ (x : Chip). Q (saidByBits (s .keyb) (s .disp)) (x .settings .system) (x .settings .sleeping)) (s .keyb) (λ e. parameters s) (λ e. parameters s)
 applied-settings Q (DisplayParameters d) c same anew sleeps parameters = same
 applied-settings Q (BlinkByte byte) c same anew sleeps parameters = same
 applied-settings Q ReadKey c same anew sleeps parameters =
@@ -116,17 +117,17 @@ never-true e = absurd (subst T (sym e) tt)
 abbrev Holds : Bool → Chip → Type 0
 Holds said c = said ≡ true → BothOff (c .settings .system)
 
-applied-off : (command : Command) (c : Chip) (before : Bool) → Holds before c → Holds (offAfter (saidBy command) before) (applied command c)
+applied-off : (command : Command) (c : Chip) (before : Bool) → Holds before c → Holds (offAfter (saidByCommand command) before) (applied command c)
 applied-off command c before holds =
     applied-settings (λ says s mark. offAfter says before ≡ true → BothOff s) command c holds (λ e. (refl, refl)) holds
     (λ s. by-bits (s .keyb) (s .disp))
   where
-    by-bits : (k d : Bool) → offAfter (saidWith k d) before ≡ true → (k ≡ false) × (d ≡ false)
+    by-bits : (k d : Bool) → offAfter (saidByBits k d) before ≡ true → (k ≡ false) × (d ≡ false)
     by-bits true d e = never-true e
     by-bits false true e = never-true e
     by-bits false false e = (refl, refl)
 
-asleep-said : (command : Command) (c : Chip) → applied command c .settings .sleeping ≡ true → saidBy command ≡ asleep
+asleep-said : (command : Command) (c : Chip) → applied command c .settings .sleeping ≡ true → saidByCommand command ≡ asleep
 asleep-said command c = applied-settings (λ says s mark. mark ≡ true → says ≡ asleep) command c never-true never-true (λ e. refl) (λ s. never-true)
 
 -- ---- a chip's own commands and scans
@@ -134,14 +135,14 @@ asleep-said command c = applied-settings (λ says s mark. mark ≡ true → says
 -- of meanings of words, one after another, given whether both were said to be off before: each sleep word stands where they were
 abbrev Allowed : Bool → List (Told Command) → Type 0
 Allowed said [] = Unit {0}
-Allowed said (means ∷ more) = (litSleep (saidOf means) said ≡ false) × Allowed (offAfter (saidOf means) said) more
+Allowed said (means ∷ more) = (litSleep (saidByMeaning means) said ≡ false) × Allowed (offAfter (saidByMeaning means) said) more
 
 -- what is said, the meanings to come allowed, and the chip as it was said
 abbrev Goes : List (Told Command) → Chip → Type 0
 Goes more c = (said : Bool) × Allowed said more × Holds said c
 
 word-step : (means : Told Command) (more : List (Told Command)) (c : Chip) → Goes (means ∷ more) c → Goes more (after (commandOf means) c)
-word-step (done command) more c (said, allowed, holds) = (offAfter (saidBy command) said, allowed .1, applied-off command c said holds)
+word-step (done command) more c (said, allowed, holds) = (offAfter (saidByCommand command) said, allowed .1, applied-off command c said holds)
 word-step (refused number place) more c (said, allowed, holds) = (said, allowed .1, holds)
 
 sample-step : (k : ℕ) (rises : Bool) (rows : List (List ℕ)) (c : Chip) → Goes (meanings k rows) c
@@ -175,15 +176,15 @@ lights-kept k was rows (scan j bytes ∷ es) c g =
 
 -- so many rows, from row m on
 from-row : (count m n k : ℕ) (ws vs : List ℕ) → k < n → vs ≡ drop (m * n) ws → count * n ≤ length vs
-    → ((p : ℕ) → p < length ws → litSleep (saidOf (decodedOf (getD ws p 0))) (maySleep n ws p) ≡ false)
+    → ((p : ℕ) → p < length ws → litSleep (saidByMeaning (decodedOf (getD ws p 0))) (maySleep n ws p) ≡ false)
     → Allowed (offBefore n ws k m) (meanings k (cutRows count n vs))
 unfolding cutRows offBefore
 from-row zero m n k ws vs h e l each = tt
 from-row (suc count) m n k ws vs h e l each = (
-  subst (λ w. litSleep (saidOf (decodedOf w)) (offBefore n ws k m) ≡ false) word
-      (subst (λ b. litSleep (saidOf (decodedOf (getD ws (m * n + k) 0))) b ≡ false) (ap₂ (offBefore n ws) (digits-mod m h) (digits-div m h))
+  subst (λ w. litSleep (saidByMeaning (decodedOf w)) (offBefore n ws k m) ≡ false) word
+      (subst (λ b. litSleep (saidByMeaning (decodedOf (getD ws (m * n + k) 0))) b ≡ false) (ap₂ (offBefore n ws) (digits-mod m h) (digits-div m h))
       (each (m * n + k) (omega (arith, length-drop (m * n) ws, ap length e)))),
-  subst (λ w. Allowed (offAfter (saidOf (decodedOf w)) (offBefore n ws k m)) (meanings k (cutRows count n (drop n vs)))) word
+  subst (λ w. Allowed (offAfter (saidByMeaning (decodedOf w)) (offBefore n ws k m)) (meanings k (cutRows count n (drop n vs)))) word
       (from-row count (suc m) n k ws (drop n vs) h (ap (drop n) e ∙ drop-drop n (m * n) ws ∙ ap (λ x. drop x ws) next) (simp length-drop (omega arith)) each),
 )
   where
@@ -199,7 +200,7 @@ rows-allowed n ws accepted k h =
     from-row (length ws / n) 0 n k ws ws h (ap (λ x. drop x ws) (sym (zero-mul n))) (div-mul-le-self (length ws) n)
     (λ p l.
     let means = decodedOf (getD ws p 0) in
-    not-refused (litSleep (saidOf means) (maySleep n ws p)) p
+    not-refused (litSleep (saidByMeaning means) (maySleep n ws p)) p
     (passed-next (wordTest n p means) (sleepTest n ws p means) (list-passed n ws accepted .each p l)))
   where
     not-refused : (b : Bool) (place : ℕ) → IsDone {A = Unit {0}} (pick b (refused 13 place) (done tt)) → b ≡ false
@@ -215,7 +216,7 @@ at-rise : (n k : ℕ) (rows : List (List ℕ)) (hs : List Held) (c : Chip) → k
 at-rise n k [] hs c h a f said allowed e = absurd a
 at-rise n k (row ∷ rows) hs c h a f said allowed e = go (decodedOf (wordFor k row)) (f .0 .words k h) (allowed .0) e
   where
-    go : (means : Told Command) → Fit n k means → litSleep (saidOf means) said ≡ false → after (commandOf means ++ []) c .settings .sleeping ≡ true → said ≡ true
+    go : (means : Told Command) → Fit n k means → litSleep (saidByMeaning means) said ≡ false → after (commandOf means ++ []) c .settings .sleeping ≡ true → said ≡ true
     go (done command) fit q z = not-false said (sym (ap (λ s. litSleep s said) (asleep-said command c z)) ∙ q)
     go (refused number place) fit q z = absurd fit
 
@@ -255,6 +256,9 @@ dark-before-sleep-of-calls n ch ws a out out′ r count w e calls s rest below w
     (dark-before n ch ws asked es s rest below samples (subst (λ x. loadRises (x .levels) s ≡ true) same rises) k h
     (subst (λ x. chipAt k x .settings .sleeping ≡ true) after-it sleeps))
 
+-- a reset and a sleep word: all samples but the last, which is the second LOAD rise
 pub some-sleep : SomeSleep
-unfolding listTest wordsFrom decodedOf offBefore cutRows samplesOf rowSamples rowBits wordBits clocking played steppedRow stepped clocked loaded applied obey reset
-some-sleep = (refl, refl)
+unfolding listTest wordsFrom decodedOf offBefore cutRows samplesOf rowSamples rowBits wordBits clocking steppedRow stepped clocked loaded applied obey reset
+some-sleep =
+    let ws : List ℕ = 0x201 ∷ 0x202 ∷ [] in
+    (ws, map sample (take 51 (written 1 ws)), 7, start-asked 1 ws tt refl, tt, refl, refl, refl)

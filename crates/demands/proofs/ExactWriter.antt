@@ -12,7 +12,7 @@ use lib.ListN.{length}
 use Rattle.base.specs.Refusals.{Told, IsDone, done, refused}
 use Rattle.word.specs.declared.Command.{Command}
 use Rattle.word.specs.Words.{decodedOf}
-use Rattle.writer.specs.Lights.{saidBy, maySleep, litSleep}
+use Rattle.writer.specs.Lights.{saidByCommand, maySleep, litSleep}
 use Rattle.writer.specs.Rows.{keypadOn, forLast, wordTest, sleepTest, orElse, testAt, wordsFrom, listTest}
 use Rattle.writer.specs.Written.{room, answerBy, answerOf}
 use Rattle.demands.specs.Exact.{Row, names, row, each, Exactly}
@@ -51,7 +51,7 @@ word-test n ws place w = go (decodedOf w) refl (decoded-table w)
         later k
         (or-else (wordTest n place (done c)) (sleepTest n ws place (done c)) (names 13 place (SleepsLit n ws place w) ∷ [])
         (tested-not (keypadOn c && not (forLast n place)) (done tt) (keypad-tests n place w c e) (answered tt))
-        (tested-not (litSleep (saidBy c) (maySleep n ws place)) (done tt) (sleep-tests n ws place w c e) (answered tt)))
+        (tested-not (litSleep (saidByCommand c) (maySleep n ws place)) (done tt) (sleep-tests n ws place w c e) (answered tt)))
     go (refused number at) e (here g f) = here g refl
     go (refused number at) e (later k (answered d)) = absurd d
 

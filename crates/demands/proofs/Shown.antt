@@ -34,7 +34,7 @@ use Rattle.chain.specs.Entries.{chipAt}
 use Rattle.base.specs.Below.{AllBelow}
 use Rattle.chain.proofs.Tested.{count-low}
 use Rattle.chain.specs.Events.{Event, sample, happened, samplesIn, ScansBelow}
-use Rattle.writer.specs.Lights.{saidBy, maySleep, litSleep}
+use Rattle.writer.specs.Lights.{saidByCommand, maySleep, litSleep}
 use Rattle.writer.specs.Rows.{cutRows, rowsOf, written, keypadOn, forLast, wordTest, sleepTest, orElse, testAt, wordsFrom, listTest}
 use Rattle.demands.specs.Events.{stepsFor, commandsIn}
 use Rattle.demands.specs.Demand3.{AskedChain, Asked, scansIn, scansOf}
@@ -49,7 +49,7 @@ use Rattle.demands.proofs.Whole.{commands-told}
 
 -- legal, no keypad turned on, and no sleep
 abbrev Sendable : Command → Type 0
-Sendable command = T (legal command) × (keypadOn command ≡ false) × ((may : Bool) → litSleep (saidBy command) may ≡ false)
+Sendable command = T (legal command) × (keypadOn command ≡ false) × ((may : Bool) → litSleep (saidByCommand command) may ≡ false)
 
 abbrev Each : List Command → Type 0
 Each [] = Unit {0}

@@ -3,14 +3,13 @@
 --     SwitchedDark                 such a chip
 --     DarkBeforeSleep              the statement of samples, with scans between
 --     DarkBeforeSleepOfCalls       the statement of calls by their contracts alone
---     SomeSleep                    there is a chip that they speak of
+--     SomeSleep                    what they ask can be had
 -- Assumes nothing.
 use mathlib.Core.Path.{_≡_}
 use mathlib.Core.Bool.{true, false}
 use mathlib.Core.List.{List, [], _∷_, _++_}
 use Prim.Native.Nat.{ℕ, _<_}
 use lib.ListN.{take}
-use Rattle.base.specs.Refusals.{done}
 use Rattle.chip.specs.declared.Chip.{Chip}
 use Rattle.chip.specs.Record.{blank}
 use Rattle.chip.specs.Edges.{loadRises}
@@ -18,12 +17,11 @@ use Rattle.chip.specs.Scans.{nothing, recorded}
 use Rattle.chip.specs.Segments.{litOf}
 use Rattle.chain.specs.declared.Chain.{Chain}
 use Rattle.chain.specs.declared.HandedChain.{HandedChain}
-use Rattle.chain.specs.Chain.{played}
 use Rattle.chain.specs.Entries.{chipAt, handedChain, startChain, playedOf}
 use Rattle.chain.specs.Events.{Event, sample, happened, samplesIn, ScansBelow}
 use Rattle.writer.specs.declared.Written.{Written}
 use Rattle.writer.specs.declared.Written.the-variants.{Samples}
-use Rattle.writer.specs.Rows.{written, listTest}
+use Rattle.writer.specs.Rows.{written}
 use Rattle.writer.specs.Written.{Writes}
 use Rattle.demands.specs.Demand3.{AskedChain, Asked}
 use Rattle.demands.specs.Calls.{Call, eventsOf, blocksOf, Ran}
@@ -35,7 +33,8 @@ pub record SwitchedDark (c : Chip) : Type 0 where
   pub showsNothing : litOf c ≡ blank
   pub takesNoKeys : (bytes : List ℕ) → recorded bytes c ≡ nothing
 
--- whatever was played and scanned before: at a LOAD rise of the written samples after which chip k sleeps, it was so just before
+-- from any state that demand 3 asks for, whatever was scanned: at a LOAD rise of the written samples after which chip k sleeps, it was so
+-- just before
 abbrev pub DarkBeforeSleep : Type 0
 DarkBeforeSleep =
     (n : ℕ) (ch : Chain) (ws : List ℕ)
@@ -66,8 +65,12 @@ DarkBeforeSleepOfCalls =
     → chipAt k (next .chain) .settings .sleeping ≡ true
     → SwitchedDark (chipAt k ch′)
 
--- and there is such a play: of a reset and a sleep word for one chip as `start` gives it
+-- and there are such plays: all that is asked above holds of some list for one chip as `start` gives it, at its last sample
 abbrev pub SomeSleep : Type 0
 SomeSleep =
-    (listTest 1 (0x201 ∷ 0x202 ∷ []) ≡ done tt)
-    × (chipAt 0 (played 1 (written 1 (0x201 ∷ 0x202 ∷ [])) startChain) .settings .sleeping ≡ true)
+    (ws : List ℕ) × (es : List Event) × (s : ℕ)
+    × Asked 1 startChain ws
+    × ScansBelow 1 es
+    × (samplesIn es ++ (s ∷ []) ≡ written 1 ws)
+    × (loadRises (happened 1 es startChain .levels) s ≡ true)
+    × (chipAt 0 (happened 1 (es ++ (sample s ∷ [])) startChain) .settings .sleeping ≡ true)

@@ -24,7 +24,7 @@ use Rattle.word.specs.Answers.{decodedTells}
 use Rattle.word.specs.Words.{decodedOf}
 use Rattle.chain.specs.Chain.{most, chipCount}
 use Rattle.chain.proofs.Tested.{count-low, count-high}
-use Rattle.writer.specs.Lights.{saidBy, maySleep, litSleep}
+use Rattle.writer.specs.Lights.{saidByCommand, maySleep, litSleep}
 use Rattle.writer.specs.Rows.{keypadOn, forLast, wordTest, sleepTest, orElse, testAt, wordsFrom, listTest}
 
 pub words-more : (n : ℕ) (ws : List ℕ) (i : ℕ) → i < length ws
@@ -46,7 +46,7 @@ module _ (n : ℕ) (ws : List ℕ) (place w : ℕ) {r : Decoded} (told : decoded
 
   module _ (c : Command) (q : r ≡ Dec.Means c) where
     -- by its two tests
-    by-tests : {keypad lit : Bool} → (keypadOn c && not (forLast n place)) ≡ keypad → litSleep (saidBy c) (maySleep n ws place) ≡ lit
+    by-tests : {keypad lit : Bool} → (keypadOn c && not (forLast n place)) ≡ keypad → litSleep (saidByCommand c) (maySleep n ws place) ≡ lit
         → orElse (pick keypad (refused 7 place) (done tt)) (pick lit (refused 13 place) (done tt)) ≡ testAt n ws place w
     by-tests k l =
         ap₂ (λ x y. orElse (pick x (refused 7 place) (done tt)) (pick y (refused 13 place) (done tt))) (sym k) (sym l) ∙ test-means (Dec.Means c) q
@@ -54,11 +54,11 @@ module _ (n : ℕ) (ws : List ℕ) (place w : ℕ) {r : Decoded} (told : decoded
     pub test-keypad : (keypadOn c && not (forLast n place)) ≡ true → refused 7 place ≡ testAt n ws place w
     test-keypad on = by-tests on refl
 
-    pub test-sleep : (keypadOn c && not (forLast n place)) ≡ false → litSleep (saidBy c) (maySleep n ws place) ≡ true
+    pub test-sleep : (keypadOn c && not (forLast n place)) ≡ false → litSleep (saidByCommand c) (maySleep n ws place) ≡ true
         → refused 13 place ≡ testAt n ws place w
     test-sleep ok lit = by-tests ok lit
 
-    pub test-passed : (keypadOn c && not (forLast n place)) ≡ false → litSleep (saidBy c) (maySleep n ws place) ≡ false
+    pub test-passed : (keypadOn c && not (forLast n place)) ≡ false → litSleep (saidByCommand c) (maySleep n ws place) ≡ false
         → done tt ≡ testAt n ws place w
     test-passed ok off = by-tests ok off
 

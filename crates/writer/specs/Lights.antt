@@ -13,7 +13,7 @@ use Rattle.word.specs.Words.{decodedOf}
 use Rattle.writer.specs.declared.lights.Lights.{Lights}
 use Rattle.writer.specs.declared.lights.Lights.the-variants.{Off, On, Asleep, Unsaid}
 
--- what is said of a chip's display and keypad: both off; not both off; both to be off, for the chip is to sleep; nothing
+-- what is said of a chip's display and keypad: both off; not both off; nothing, but the chip is put to sleep; nothing
 pub data Said : Type 0 where
   off : Said
   on : Said
@@ -28,33 +28,32 @@ saidIn Asleep = asleep
 saidIn Unsaid = unsaid
 
 -- system parameters with KEYB 0 and DISP 0 say that display and keypad are off, others that they are not
-abbrev pub saidWith : Bool → Bool → Said
-saidWith keyb disp = pick (keyb || disp) on off
+abbrev pub saidByBits : Bool → Bool → Said
+saidByBits keyb disp = pick (keyb || disp) on off
 
--- what a command says of its chip's display and keypad: a reset, off; system parameters by their bits; sleep, that they are to be off;
--- any other nothing
-abbrev pub saidBy : Command → Said
-saidBy NoOperation = unsaid
-saidBy (BarLevel level) = unsaid
-saidBy (SegmentClear addr) = unsaid
-saidBy (SegmentSet addr) = unsaid
-saidBy Reset = off
-saidBy Sleep = asleep
-saidBy ShiftLeft = unsaid
-saidBy ShiftRight = unsaid
-saidBy RotateLeft = unsaid
-saidBy RotateRight = unsaid
-saidBy (CustomCharacter shape) = unsaid
-saidBy (SystemParameters s) = saidWith (s .keyb) (s .disp)
-saidBy (DisplayParameters d) = unsaid
-saidBy (BlinkByte byte) = unsaid
-saidBy ReadKey = unsaid
-saidBy (LoadDigit dig byte) = unsaid
+-- what a command says: a reset, off; system parameters by their bits; sleep puts the chip to sleep; any other says nothing
+abbrev pub saidByCommand : Command → Said
+saidByCommand NoOperation = unsaid
+saidByCommand (BarLevel level) = unsaid
+saidByCommand (SegmentClear addr) = unsaid
+saidByCommand (SegmentSet addr) = unsaid
+saidByCommand Reset = off
+saidByCommand Sleep = asleep
+saidByCommand ShiftLeft = unsaid
+saidByCommand ShiftRight = unsaid
+saidByCommand RotateLeft = unsaid
+saidByCommand RotateRight = unsaid
+saidByCommand (CustomCharacter shape) = unsaid
+saidByCommand (SystemParameters s) = saidByBits (s .keyb) (s .disp)
+saidByCommand (DisplayParameters d) = unsaid
+saidByCommand (BlinkByte byte) = unsaid
+saidByCommand ReadKey = unsaid
+saidByCommand (LoadDigit dig byte) = unsaid
 
--- what a word says; an unlisted one says nothing
-abbrev pub saidOf : Told Command → Said
-saidOf (done command) = saidBy command
-saidOf (refused number place) = unsaid
+-- what a word says, by what it means; an unlisted one says nothing
+abbrev pub saidByMeaning : Told Command → Said
+saidByMeaning (done command) = saidByCommand command
+saidByMeaning (refused number place) = unsaid
 
 -- whether display and keypad are off after a word, given whether they were before it; sleep words count as neither
 abbrev pub offAfter : Said → Bool → Bool
@@ -67,13 +66,13 @@ offAfter unsaid before = before
 -- and DISP 0
 unfoldable pub offBefore : ℕ → List ℕ → ℕ → ℕ → Bool
 offBefore n ws k zero = false
-offBefore n ws k (suc row) = offAfter (saidOf (decodedOf (getD ws (row * n + k) 0))) (offBefore n ws k row)
+offBefore n ws k (suc row) = offAfter (saidByMeaning (decodedOf (getD ws (row * n + k) 0))) (offBefore n ws k row)
 
 -- whether a sleep word may stand at a place of the list
 abbrev pub maySleep : ℕ → List ℕ → ℕ → Bool
 maySleep n ws place = offBefore n ws (place % n) (place / n)
 
--- a sleep word that may not
+-- whether a word is sleep where none may stand
 abbrev pub litSleep : Said → Bool → Bool
 litSleep off may = false
 litSleep on may = false

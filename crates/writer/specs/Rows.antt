@@ -12,7 +12,7 @@ use Rattle.word.specs.declared.Command.{Command}
 use Rattle.word.specs.declared.Command.the-variants.{NoOperation, BarLevel, SegmentClear, SegmentSet, Reset, Sleep, ShiftLeft, ShiftRight, RotateLeft, RotateRight, CustomCharacter, SystemParameters, DisplayParameters, BlinkByte, ReadKey, LoadDigit}
 use Rattle.word.specs.Words.{decodedOf}
 use Rattle.chain.specs.Chain.{chipCount}
-use Rattle.writer.specs.Lights.{saidOf, maySleep, litSleep}
+use Rattle.writer.specs.Lights.{saidByMeaning, maySleep, litSleep}
 
 -- ---- rows
 
@@ -93,7 +93,7 @@ wordTest n place (done command) = pick (keypadOn command && not (forLast n place
 
 -- 13 where it is a sleep word, unless its chip's nearest earlier reset or system word in the list is a reset or has KEYB 0 and DISP 0
 abbrev pub sleepTest : ℕ → List ℕ → ℕ → Told Command → Told (Unit {0})
-sleepTest n ws place means = pick (litSleep (saidOf means) (maySleep n ws place)) (refused 13 place) (done tt)
+sleepTest n ws place means = pick (litSleep (saidByMeaning means) (maySleep n ws place)) (refused 13 place) (done tt)
 
 -- a test, and the next where it is passed
 abbrev pub orElse : Told (Unit {0}) → Told (Unit {0}) → Told (Unit {0})

@@ -14,15 +14,15 @@ pub(crate) enum Lights {
     Off,
     // Not both off: any other system parameters.
     On,
-    // Both are asked to be off: sleep.
+    // Nothing, but the chip is put to sleep.
     Asleep,
-    // Nothing: any other command.
+    // Nothing, by any other command.
     Unsaid,
 }
 
 // What system parameters with this KEYB and this DISP say.
-fn lights_with(keyb: bool, disp: bool) -> Lights
-    ensures { λ r. ⌜ L.saidIn r ≡ L.saidWith keyb disp ⌝ }
+fn lights_by_bits(keyb: bool, disp: bool) -> Lights
+    ensures { λ r. ⌜ L.saidIn r ≡ L.saidByBits keyb disp ⌝ }
 {
     if keyb {
         return Lights::On;
@@ -33,8 +33,9 @@ fn lights_with(keyb: bool, disp: bool) -> Lights
     Lights::Off
 }
 
-fn lights_by(command: Command) -> Lights
-    ensures { λ r. ⌜ L.saidIn r ≡ L.saidBy command ⌝ }
+// What a command says.
+fn lights_by_command(command: Command) -> Lights
+    ensures { λ r. ⌜ L.saidIn r ≡ L.saidByCommand command ⌝ }
 {
     match command {
         Command::NoOperation => Lights::Unsaid,
@@ -48,7 +49,7 @@ fn lights_by(command: Command) -> Lights
         Command::RotateLeft => Lights::Unsaid,
         Command::RotateRight => Lights::Unsaid,
         Command::CustomCharacter(_) => Lights::Unsaid,
-        Command::SystemParameters(s) => lights_with(s.keyb, s.disp),
+        Command::SystemParameters(s) => lights_by_bits(s.keyb, s.disp),
         Command::DisplayParameters(_) => Lights::Unsaid,
         Command::BlinkByte(_) => Lights::Unsaid,
         Command::ReadKey => Lights::Unsaid,
@@ -57,12 +58,12 @@ fn lights_by(command: Command) -> Lights
 }
 
 // What a word says; an unlisted one says nothing.
-fn lights_of(w: u16) -> Lights
-    ensures { λ r. ⌜ L.saidIn r ≡ L.saidOf (decodedOf w) ⌝ }
+fn lights_by_word(w: u16) -> Lights
+    ensures { λ r. ⌜ L.saidIn r ≡ L.saidByMeaning (decodedOf w) ⌝ }
 {
     match word::decode(w) {
         Decoded::Refused(_) => Lights::Unsaid,
-        Decoded::Means(c) => lights_by(c),
+        Decoded::Means(c) => lights_by_command(c),
     }
 }
 
@@ -79,7 +80,7 @@ fn may_sleep(n: usize, words: &[u16], place: usize) -> bool
     while passed < rows {
         let row = rows - 1 - passed;
         let at = row * n + chip;
-        match lights_of(words[at]) {
+        match lights_by_word(words[at]) {
             Lights::Off => {
                 return true;
             }
@@ -101,9 +102,9 @@ fn may_sleep(n: usize, words: &[u16], place: usize) -> bool
 pub(crate) fn is_lit_sleep(n: usize, words: &[u16], place: usize, command: Command) -> bool
     requires { ⌜ 0 < n ⌝ }
     requires { ⌜ place < length (now words) ⌝ }
-    ensures { λ r. ⌜ r ≡ L.litSleep (L.saidBy command) (L.maySleep n (now (words .entry)) place) ⌝ }
+    ensures { λ r. ⌜ r ≡ L.litSleep (L.saidByCommand command) (L.maySleep n (now (words .entry)) place) ⌝ }
 {
-    match lights_by(command) {
+    match lights_by_command(command) {
         Lights::Off => false,
         Lights::On => false,
         Lights::Asleep => !may_sleep(n, words, place),

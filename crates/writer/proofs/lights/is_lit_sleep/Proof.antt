@@ -14,16 +14,16 @@ arm : (found : Lights) {r : Lights} {says : Said} {b may : Bool} → r ≡ found
 arm found q e m = ap₂ litSleep (ap saidIn (sym q) ∙ e) m
 
 returns : tie.Need-returns
-returns c = arm Off (c .enum-told .given .1) (c .before .before .lights-by .ensures) refl
+returns c = arm Off (c .enum-told .given .1) (c .before .before .lights-by-command .ensures) refl
 
 returns-2 : tie.Need-returns-2
-returns-2 c = arm On (c .enum-told2 .given .1) (c .before .before .lights-by .ensures) refl
+returns-2 c = arm On (c .enum-told2 .given .1) (c .before .before .lights-by-command .ensures) refl
 
 returns-3 : tie.Need-returns-3
-returns-3 c = arm Asleep (c .before .enum-told3 .given .1) (c .before .before .before .lights-by .ensures) (c .may-sleep .ensures)
+returns-3 c = arm Asleep (c .before .enum-told3 .given .1) (c .before .before .before .lights-by-command .ensures) (c .may-sleep .ensures)
 
 returns-4 : tie.Need-returns-4
-returns-4 c = arm Unsaid (c .enum-told4 .given .1) (c .before .before .lights-by .ensures) refl
+returns-4 c = arm Unsaid (c .enum-told4 .given .1) (c .before .before .lights-by-command .ensures) refl
 
 pub is-lit-sleep-spec : {M : Type 1} → statement M
 is-lit-sleep-spec =

@@ -1,7 +1,7 @@
 -- `writer::lights::may_sleep` meets its contract. The invariant: what is said before the rows that were passed is what is said before all.
 -- Assumes nothing.
 use mathlib.Core.Path.{_≡_, ap, sym, _∙_}
-use Prim.Native.Nat.{_+_, _-_, _/_, _%_, _≤_}
+use Prim.Native.Nat.{_+_, _-_, _*_, _/_, _%_, _≤_, _<_}
 use native.Mathlib.Nat.{sub-zero, div-le-self}
 use native.Mathlib.Omega.{arith}
 use Rattle.writer.specs.declared.lights.Lights.{Lights}
@@ -23,26 +23,34 @@ loop-holds c =
     let a = c .before .args in
     (search needs, ap (offBefore (a .n) (a .words .now) (a .place % a .n)) (sub-zero (a .place / a .n)))
 
+-- the place that is looked at
+in-list : (k : tie.In-loop Inv-loop μ-loop)
+    → (k .before .before .before .args .place / k .before .before .before .args .n - 1 - k .before .loop .passed) * k .before .before .before .args .n + k .before .before .before .args .place % k .before .before .before .args .n
+    < k .before .before .before .args .place
+in-list k =
+    let a = k .before .before .before .args in
+    row-before (a .n) (a .place) (a .place / a .n - 1 - k .before .loop .passed) (k .before .before .before .pre .0) (omega arith)
+
 mul-at : tie.Need-mul-at Inv-loop μ-loop
-mul-at c = omega (arith, row-before (c .before .before .before .args .n) (c .before .before .before .args .place) (c .before .loop .passed) (c .before .before .before .pre .0) (c .loop-test .taken))
+mul-at c = omega (arith, in-list c)
 
 add-at : tie.Need-add-at Inv-loop μ-loop
-add-at c = omega (arith, row-before (c .before .before .before .args .n) (c .before .before .before .args .place) (c .before .loop .passed) (c .before .before .before .pre .0) (c .loop-test .taken))
+add-at c = omega (arith, in-list c)
 
-mul-lights-of : tie.Need-mul-lights-of Inv-loop μ-loop
-mul-lights-of c = omega (arith, row-before (c .before .before .before .args .n) (c .before .before .before .args .place) (c .before .loop .passed) (c .before .before .before .pre .0) (c .loop-test .taken))
+mul-lights-by-word : tie.Need-mul-lights-by-word Inv-loop μ-loop
+mul-lights-by-word c = omega (arith, in-list c)
 
-shared-slice-read-lights-of : tie.Need-shared-slice-read-lights-of Inv-loop μ-loop
-shared-slice-read-lights-of c = omega (arith, row-before (c .before .before .before .before .args .n) (c .before .before .before .before .args .place) (c .before .before .loop .passed) (c .before .before .before .before .pre .0) (c .before .loop-test .taken))
+shared-slice-read-lights-by-word : tie.Need-shared-slice-read-lights-by-word Inv-loop μ-loop
+shared-slice-read-lights-by-word c = omega (arith, in-list (c .before))
 
 -- what the word of a row says, and those before it, is what is said before all
-said : (k : tie.After-lights-of Inv-loop μ-loop) (says : Lights) → k .lights-of .result ≡ says
+said : (k : tie.After-lights-by-word Inv-loop μ-loop) (says : Lights) → k .lights-by-word .result ≡ says
     → offAfter (saidIn says) (offBefore (k .before .before .before .before .before .args .n) (k .before .before .before .before .before .args .words .now) (k .before .before .before .before .before .args .place % k .before .before .before .before .before .args .n) (k .before .before .before .before .before .args .place / k .before .before .before .before .before .args .n - (k .before .before .before .loop .passed + 1)))
     ≡ offBefore (k .before .before .before .before .before .args .n) (k .before .before .before .before .before .args .words .now) (k .before .before .before .before .before .args .place % k .before .before .before .before .before .args .n) (k .before .before .before .before .before .args .place / k .before .before .before .before .before .args .n)
 said k says e =
     let a = k .before .before .before .before .before .args in
     let l = k .before .before .before .loop in
-    off-found (a .n) (a .words .now) (a .place % a .n) (a .place / a .n) (l .passed) (k .before .before .loop-test .taken) (saidIn says) (ap saidIn (sym e) ∙ k .lights-of .ensures) ∙ l .inv .1
+    off-found (a .n) (a .words .now) (a .place % a .n) (a .place / a .n) (l .passed) (k .before .before .loop-test .taken) (saidIn says) (ap saidIn (sym e) ∙ k .lights-by-word .ensures) ∙ l .inv .1
 
 returns : tie.Need-returns Inv-loop μ-loop
 returns c = said (c .before .before) Off (c .enum-told .given .1)
@@ -76,8 +84,8 @@ may-sleep-spec =
     (λ c. search needs)
     mul-at
     add-at
-    mul-lights-of
-    shared-slice-read-lights-of
+    mul-lights-by-word
+    shared-slice-read-lights-by-word
     (λ c κs. search needs)
     (λ c. search needs)
     returns
