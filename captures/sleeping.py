@@ -1,14 +1,10 @@
 """Captures of chips that are put to sleep, with their display and keypad off (C-17) and on, and what they must give, by hand."""
-from writer import first, played, row, text
-
-def digit_0(data):
-    """A word that loads DIG0."""
-    return 0x800 + data
+from writer import digit, first, played, row, text
 
 
-def lit(chip, digit=0):
+def lit(chip, segments=0):
     """The line of `screen` for a chip that lights DIG0 so, and nothing else."""
-    return "30%02X%02X" % (chip, digit) + "00" * 7
+    return "30%02X%02X" % (chip, segments) + "00" * 7
 
 
 # two chips show 1 and 2; both are switched off, put to sleep and woken by a row of no operations, and stay dark
@@ -16,7 +12,7 @@ PUT_TO_SLEEP = (
     text(
         [first(2)]
         + played(row(0x401, 0x403))
-        + played(row(digit_0(0x06), digit_0(0x5B)))
+        + played(row(digit(0, 0x06), digit(0, 0x5B)))
         + played(row(0x400, 0x400))
         + played(row(0x202, 0x202))
         + played(row(0x000, 0x000))
@@ -30,7 +26,7 @@ SLEPT_LIT = (
     text(
         [first(2)]
         + played(row(0x401, 0x403))
-        + played(row(digit_0(0x06), digit_0(0x5B)))
+        + played(row(digit(0, 0x06), digit(0, 0x5B)))
         + played(row(0x000, 0x400))
         + played(row(0x202, 0x202))
         + played(row(0x000, 0x000))
@@ -39,4 +35,11 @@ SLEPT_LIT = (
     [lit(0), lit(1), lit(0, 0x06), lit(1, 0x5B), lit(0, 0x06), lit(1), lit(0), lit(1), lit(0, 0x06), lit(1)],
 )
 
-SLEEPING = {"put_to_sleep": PUT_TO_SLEEP, "slept_lit": SLEPT_LIT}
+# one chip: a reset switches display and keypad off before sleep; then the keypad alone is on
+SLEPT_AFTER_RESET = (
+    text([first(1)] + [line for word in (0x403, 0x201, 0x202, 0x402, 0x202) for line in played(row(word))]),
+    ["10000403", "10000201", "10000202", "10000402", "10000202"],
+    [lit(0)] * 5,
+)
+
+SLEEPING = {"put_to_sleep": PUT_TO_SLEEP, "slept_lit": SLEPT_LIT, "slept_after_reset": SLEPT_AFTER_RESET}

@@ -16,6 +16,11 @@ def row(*words):
     return samples + [3, 7]
 
 
+def digit(place, data):
+    """A word that loads a digit."""
+    return 0x800 + 0x100 * place + data
+
+
 def played(samples, kind=0x01):
     """Samples as lines of 32, of the kind 01, or 41 for two wires."""
     return ["%02X" % kind + "".join("%02X" % sample for sample in samples[at:at + 32]) for at in range(0, len(samples), 32)]

@@ -1,7 +1,8 @@
 /* Puts a panel of three chips to sleep for the night: a row that switches display and keypad off, then a row of sleep words, in one list.
  * It prints the samples as a capture text, for `./zhaqsumir replay -`. With the word `now` it sends the sleep words alone, which the
- * writer refuses: a panel that sleeps with its lights on would show its last amount when it is woken. */
+ * writer refuses: a panel that sleeps with its display on would show its last amount when it is woken. */
 #include <stdio.h>
+#include <string.h>
 #include "zhaqsumir.h"
 
 #define CHIPS 3
@@ -31,10 +32,14 @@ static int send_rows(const unsigned short *words, unsigned long rows)
 int main(int count, char **given)
 {
     static const unsigned short words[2 * CHIPS] = {
-        0x400, 0x400, 0x400, /* system parameters: KEYB 0 and DISP 0 */
+        0x400, 0x400, 0x400, /* system parameters: KEYB 0 and DISP 0, and INTM, SSPD and DPLR as this panel has them, 0 */
         0x202, 0x202, 0x202, /* sleep */
     };
-    int now = count > 1 && given[1][0] == 'n';
 
-    return now ? !send_rows(words + CHIPS, 1) : !send_rows(words, 2);
+    if (count == 1)
+        return !send_rows(words, 2);
+    if (count == 2 && strcmp(given[1], "now") == 0)
+        return !send_rows(words + CHIPS, 1);
+    printf("night [now]\n");
+    return 2;
 }

@@ -200,9 +200,10 @@ void zhaqsumir_encode(const unsigned long command[6], unsigned long answer[3]);
  * Refused, where several hold the first of them: BAD_CHIPS (3); PART_ROW (4); MANY_ROWS (5); then, from the first word on, BAD_WORD
  * (6), EARLY_KEYPAD (7) or LIT_SLEEP (13), with the place of that word in words; SHORT_BUFFER (8). Then out is left whole as it was,
  * and 0 samples are written.
- * LIT_SLEEP is for a sleep word (202H), unless the nearest earlier word in words for the same chip that is a reset (201H) or system
- * parameters is there, and is a reset or has KEYB 0 and DISP 0. INTM, SSPD and DPLR may be anything, sleep words between count as
- * neither, and what an earlier call wrote doesn't count. So switch a chip off and put it to sleep in one call: 400H, then 202H. */
+ * LIT_SLEEP is for a sleep word (202H) unless the nearest earlier reset (201H) or system word for that same chip in words exists and is a
+ * reset or has KEYB 0 and DISP 0. INTM, SSPD and DPLR may be anything, sleep words between count as neither, and what an earlier call
+ * wrote doesn't count. So give each chip system parameters with KEYB 0 and DISP 0 in one row (400H, with the panel's own INTM, SSPD and
+ * DPLR) and 202H in a later row of the same call. */
 void zhaqsumir_write(unsigned long n, const unsigned short *words, unsigned long count,
                      unsigned char *out, unsigned long room, unsigned long answer[3]);
 

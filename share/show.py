@@ -30,6 +30,11 @@ def place_of(address):
     return "DIG%d, SEG%d" % (address % 8, address // 8)
 
 
+def is_system(word):
+    """Whether a word is one of system parameters: 010000 INTM SSPD DPLR 0 KEYB DISP."""
+    return 0x400 <= word < 0x440 and not word & 4
+
+
 def meaning(word):
     """What a 12-bit word commands: document 01's table, row by row; what no row has is unlisted."""
     low = word & 0xFF
@@ -45,7 +50,7 @@ def meaning(word):
         return WHOLE[word]
     if 0x380 <= word < 0x400:
         return "custom character %02XH" % (word - 0x380)
-    if 0x400 <= word < 0x440 and not word & 4:
+    if is_system(word):
         return "system parameters: " + bits(word, "INTM", "SSPD", "DPLR", None, "KEYB", "DISP")
     if 0x500 <= word < 0x600 and not word & 15:
         mode, limit = word >> 7 & 1, word >> 4 & 7
@@ -94,10 +99,10 @@ def explained(lines, refused):
             text = "chip %d: %s" % (chip, meaning(word))
             if word == 0x201:
                 still_on[chip] = 0
-            elif 0x400 <= word < 0x440 and not word & 4:
+            elif is_system(word):
                 still_on[chip] = word & 3
             elif word == 0x202 and still_on.get(chip):
-                text += ", and %s still on; the writer refuses such a word (13)" % STILL_ON[still_on[chip]]
+                text += ", and %s still on; the writer refuses such a word (refusal 13)" % STILL_ON[still_on[chip]]
         elif frame[0] in (0x11, 0x12):
             chip, code = frame[1], frame[2]
             text = "chip %d: %s recorded, code %02XH" % (chip, key_of(code), code)

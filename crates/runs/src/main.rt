@@ -1,5 +1,5 @@
 // Runs document 01's run-only cases and others of chains, the finder, the writer and full counts, and those of the CH450, and writes a line
-// for each. What it must write stands in the file `stdout`, which was written from document 01 and C-15.
+// for each. What it must write stands in the file `stdout`, which was written from document 01, C-15 and C-17.
 mod chains;
 mod full;
 mod sleeps;

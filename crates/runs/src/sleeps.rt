@@ -3,7 +3,7 @@ use crate::text::line_end;
 use crate::text::put;
 use crate::text::put_byte;
 use crate::writes::answered;
-use crate::writes::listed;
+use crate::writes::with_room;
 use chain::Chain;
 
 pub fn run() {
@@ -16,39 +16,39 @@ pub fn run() {
 fn one_chip() {
     let alone = [0x202u16];
     put(b"sleep alone: ");
-    listed(1, &alone);
+    with_room(1, &alone);
     let twice = [0x400u16, 0x202, 0x202];
     put(b"KEYB 0 and DISP 0, sleep, sleep: ");
-    listed(1, &twice);
+    with_room(1, &twice);
     let display = [0x401u16, 0x202];
     put(b"DISP 1, sleep: ");
-    listed(1, &display);
+    with_room(1, &display);
     let keypad = [0x402u16, 0x202];
     put(b"KEYB 1, sleep: ");
-    listed(1, &keypad);
+    with_room(1, &keypad);
     let nearest = [0x201u16, 0x403, 0x202];
     put(b"a reset, KEYB 1 and DISP 1, sleep: ");
-    listed(1, &nearest);
+    with_room(1, &nearest);
     let reset = [0x403u16, 0x201, 0x202];
     put(b"KEYB 1 and DISP 1, a reset, sleep: ");
-    listed(1, &reset);
+    with_room(1, &reset);
     let others = [0x438u16, 0x202];
     put(b"INTM, SSPD and DPLR 1, sleep: ");
-    listed(1, &others);
+    with_room(1, &others);
     let off = [0x400u16];
     put(b"KEYB 0 and DISP 0 in one list: ");
-    listed(1, &off);
+    with_room(1, &off);
     put(b"sleep in the next list: ");
-    listed(1, &alone);
+    with_room(1, &alone);
 }
 
 fn two_chips() {
     let neighbour = [0x000u16, 0x201, 0x202, 0x000];
     put(b"a reset for chip 1, sleep for chip 0: ");
-    listed(2, &neighbour);
+    with_room(2, &neighbour);
     let own = [0x201u16, 0x403, 0x202, 0x000];
     put(b"a reset for chip 0, KEYB 1 and DISP 1 for chip 1, sleep for chip 0: ");
-    listed(2, &own);
+    with_room(2, &own);
 }
 
 // Beside 6, 7 and 8.
@@ -56,18 +56,19 @@ fn other_refusals() {
     let mut no_room = [0u8; 1];
     let before_6 = [0x202u16, 0x404];
     put(b"sleep and an unlisted word: ");
-    listed(1, &before_6);
+    with_room(1, &before_6);
     let after_6 = [0x404u16, 0x202];
     put(b"an unlisted word and sleep: ");
-    listed(1, &after_6);
+    with_room(1, &after_6);
     let after_7 = [0x403u16, 0x202];
     put(b"KEYB 1 for chip 0 and sleep for chip 1: ");
-    listed(2, &after_7);
+    with_room(2, &after_7);
     let large = [0x1202u16];
     put(b"sleep above 4,095: ");
-    listed(1, &large);
+    with_room(1, &large);
+    let alone = [0x202u16];
     put(b"sleep and no room: ");
-    answered(writer::write(1, &before_6, &mut no_room));
+    answered(writer::write(1, &alone, &mut no_room));
 }
 
 // What DIG0 lights, and whether the chip sleeps.

@@ -30,7 +30,7 @@ pub fn answered(w: Written) {
 }
 
 // A list, and what the writer answers with room for all of it.
-pub fn listed(n: usize, words: &[u16]) {
+pub fn with_room(n: usize, words: &[u16]) {
     let mut out = [0u8; 220];
     answered(writer::write(n, words, &mut out));
 }
@@ -55,33 +55,33 @@ fn chips() {
     let eight = [0u16; 8];
     let nine = [0u16; 9];
     put(b"a row for 8 chips: ");
-    listed(8, &eight);
+    with_room(8, &eight);
     put(b"a row for 9 chips: ");
-    listed(9, &nine);
+    with_room(9, &nine);
     put(b"a list of 9 words for 8 chips: ");
-    listed(8, &nine);
+    with_room(8, &nine);
 }
 
 fn lists() {
     let none = [0u16; 0];
     let mut no_room = [0u8; 1];
     put(b"no words: ");
-    listed(2, &none);
+    with_room(2, &none);
     let last = [0x000u16, 0x403];
     put(b"KEYB 1 for the last chip: ");
-    listed(2, &last);
+    with_room(2, &last);
     let first = [0x403u16, 0x000];
     put(b"KEYB 1 for another chip: ");
-    listed(2, &first);
+    with_room(2, &first);
     let full = [0x141u16, 0x17F];
     put(b"bar levels 65 and 127: ");
-    listed(2, &full);
+    with_room(2, &full);
     let unlisted = [0x000u16, 0x404];
     put(b"an unlisted word and no room: ");
     answered(writer::write(2, &unlisted, &mut no_room));
     let large = [5000u16, 0x403];
     put(b"a word above 4,095: ");
-    listed(2, &large);
+    with_room(2, &large);
 }
 
 // What stands in DIG0 of three chips, and the last one's key code.
