@@ -32,8 +32,8 @@ pub enum Refusal {
     // 12: a chip record or the levels hold what no chip can, of a CH450 what no run from power-on can; so is a tally of captures with more
     // chips than there can be.
     Record,
-    // 13: a sleep word for a chip whose nearest earlier reset or system word in the same list is neither a reset nor has KEYB 0 and DISP
-    // 0, or isn't there; the sleep word's place in the list.
+    // 13: a sleep word, unless the nearest earlier reset or system word for that same chip in the same list exists and is a reset or has
+    // KEYB 0 and DISP 0; the sleep word's place in the list.
     LitSleep(u64),
     // 16: a count of a tally has no room for a line's samples and scans; the line's number from 1.
     Count(u64),

@@ -1,4 +1,5 @@
--- Document 01, "The writer and the finder": the samples that rows of words are written as, and the words that are accepted (C-17).
+-- Document 01, "The writer and the finder": the samples that rows of words are written as, and the words that are accepted. Where a sleep
+-- word may stand (C-17), specs/Lights.antt says.
 -- Assumes nothing.
 use Prim.Native.Nat.{ℕ, zero, suc, _+_, _-_, _*_, _/_, _%_}
 use mathlib.Core.Bool.{Bool, false, not, _&&_}
@@ -91,7 +92,8 @@ abbrev pub wordTest : ℕ → ℕ → Told Command → Told (Unit {0})
 wordTest n place (refused number at) = refused 6 place
 wordTest n place (done command) = pick (keypadOn command && not (forLast n place)) (refused 7 place) (done tt)
 
--- 13 where it is a sleep word, unless its chip's nearest earlier reset or system word in the list is a reset or has KEYB 0 and DISP 0
+-- 13 where it is a sleep word, unless the nearest earlier reset or system word for that same chip in the list exists and is a reset or
+-- has KEYB 0 and DISP 0
 abbrev pub sleepTest : ℕ → List ℕ → ℕ → Told Command → Told (Unit {0})
 sleepTest n ws place means = pick (litSleep (saidByMeaning means) (maySleep n ws place)) (refused 13 place) (done tt)
 
