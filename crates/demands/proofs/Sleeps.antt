@@ -149,7 +149,7 @@ module _ (n : ℕ) (ws : List ℕ) (place : ℕ) (pos : 0 < n) where
   abbrev chip : ℕ
   chip = place % n
 
-  -- a place of that chip, by its row, and the row of such a place
+  -- a place of that chip, by its row, and the chip of such a place
   by-row : (q : ℕ) → q % n ≡ chip → q / n * n + chip ≡ q
   by-row q e = ap (λ x. q / n * n + x) (sym e) ∙ div-add-mod' q n
 

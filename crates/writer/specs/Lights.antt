@@ -27,7 +27,7 @@ saidIn On = on
 saidIn Asleep = asleep
 saidIn Unsaid = unsaid
 
--- system parameters with KEYB 0 and DISP 0 say that display and keypad are off, others that they are not
+-- system parameters with KEYB 0 and DISP 0 say that display and keypad are off, others that they are not both off
 abbrev pub saidByBits : Bool → Bool → Said
 saidByBits keyb disp = pick (keyb || disp) on off
 
