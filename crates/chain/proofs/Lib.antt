@@ -3,6 +3,7 @@ pub mod Steps
 pub mod Stretch
 pub mod Tested
 pub mod Laws
+pub mod Rises
 pub mod Shift
 pub mod Clocks
 pub mod Places

@@ -2,19 +2,25 @@
 -- The entries come first, then the inner functions.
 -- Assumes nothing.
 use mathlib.Core.Path.{_≡_, refl, ap, sym, _∙_}
-use Rattle.base.specs.Refusals.{Outcome}
+use Prim.Native.Nat.{ℕ}
+use Rattle.base.specs.Refusals.{Told, done, refused, Outcome}
 use Rattle.base.specs.Unique.{AllowsOne}
+use Rattle.base.proofs.Refusals.{refusalOf, refusal-back}
 use Rattle.base.proofs.Unique.{same-answer, same-verdict}
 use Rattle.chip.proofs.Unique.{same-scan-answer, same-taken, same-lit}
 use Rattle.chain.specs.declared.Chain.{Chain}
 use Rattle.chain.specs.declared.HandedChain.{HandedChain}
+use Rattle.chain.specs.declared.blocks.Rises.{Rises}
+use Rattle.chain.specs.declared.blocks.Rises.the-variants as Counted
 use Rattle.chain.specs.declared.finder.Rise.{Rise}
-use Rattle.chain.specs.declared.finder.Rise.the-variants as Rises
+use Rattle.chain.specs.declared.finder.Rise.the-variants as Next
+use Rattle.chain.specs.Blocks.{risesTell}
 use Rattle.chain.specs.Finder.{NextRise, riseAt, noRise, nextRiseOf}
 use Rattle.chain.specs.Entries.{handedChain}
 use Rattle.chain.proofs.start
 use Rattle.chain.proofs.host_sees
 use Rattle.chain.proofs.play
+use Rattle.chain.proofs.blocks
 use Rattle.chain.proofs.one
 use Rattle.chain.proofs.finder
 use Rattle.chain.proofs.checks
@@ -25,13 +31,22 @@ handed-same r s p q =
     λ i. record { chain = ap (λ o. o .state) e i; answer = same-verdict {v = r .answer} {w = s .answer} (ap (λ o. o .told) e) i }
 
 rise-of : NextRise → Rise
-rise-of (riseAt place) = Rises.At place
-rise-of noRise = Rises.Nothing
+rise-of (riseAt place) = Next.At place
+rise-of noRise = Next.Nothing
 
 rise-back : (rise : Rise) → rise-of (nextRiseOf rise) ≡ rise
 unfolding rise-of
-rise-back (Rises.At place) = refl
-rise-back Rises.Nothing = refl
+rise-back (Next.At place) = refl
+rise-back Next.Nothing = refl
+
+answered : Told ℕ → Rises
+answered (done count) = Counted.Count count
+answered (refused number place) = Counted.Refused (refusalOf number place)
+
+answered-back : (r : Rises) → answered (risesTell r) ≡ r
+unfolding answered
+answered-back (Counted.Count count) = refl
+answered-back (Counted.Refused e) = ap Counted.Refused (refusal-back e)
 
 -- ---- the entries
 
@@ -46,6 +61,12 @@ host-sees-unique κs a x y last last′ p q =
 
 pub play-unique : AllowsOne play.play.Kinds.ps play.play.Kinds.r play.play.Reads.Learnt
 play-unique κs a x y last last′ p q = (handed-same x y p q, refl)
+
+pub block-unique : AllowsOne blocks.block.Kinds.ps blocks.block.Kinds.r blocks.block.Reads.Learnt
+block-unique κs a x y last last′ p q =
+    let e = same-answer (p .answer) (q .answer) in
+    let answer = sym (answered-back (x .answer)) ∙ ap (λ o. answered (o .told)) e ∙ answered-back (y .answer) in
+    (λ i. record { chain = ap (λ o. o .state) e i; answer = answer i }, λ i. (tt, (tt, (tt, (same-answer (p .places) (q .places) i, tt)))))
 
 pub apply-unique : AllowsOne one.apply.Kinds.ps one.apply.Kinds.r one.apply.Reads.Learnt
 apply-unique κs a x y last last′ p q = (handed-same x y p q, refl)

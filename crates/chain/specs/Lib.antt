@@ -4,3 +4,4 @@ pub mod Entries
 pub mod Stretch
 pub mod Still
 pub mod Events
+pub mod Blocks

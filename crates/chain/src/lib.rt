@@ -10,6 +10,7 @@ use chip::Keys;
 use chip::LineParts;
 use chip::Readout;
 
+pub mod blocks;
 pub mod checks;
 pub mod finder;
 pub mod one;
