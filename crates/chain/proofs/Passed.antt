@@ -4,16 +4,17 @@
 --     start-done               1 to 8 chips are started
 --     scan-valid               a scan leaves valid records valid
 --     play-done, scan-done     neither `play` nor `scan` then refuses
+--     block-done               nor does `block`, where its list is long enough
 -- Assumes nothing.
-use mathlib.Core.Path.{_≡_, refl, ap₂}
+use mathlib.Core.Path.{_≡_, refl, ap₂, _∙_}
 use mathlib.Core.Bool.{Bool, true, false}
 use mathlib.Core.List.{List, [], _∷_}
-use Prim.Native.Nat.{ℕ, zero, suc, _<_}
-use borrow.Author.Tests.{lt-ltb}
+use Prim.Native.Nat.{ℕ, zero, suc, _≤_, _<_}
+use borrow.Author.Tests.{le-leb, lt-ltb}
 use lib.Dec.{T, leb}
-use lib.ListN.{getD, set, replicate}
+use lib.ListN.{length, getD, set, replicate}
 use Rattle.base.specs.Pick.{pick}
-use Rattle.base.specs.Refusals.{Told, done, refused, handsBack, onceTested}
+use Rattle.base.specs.Refusals.{Told, done, refused, Outcome, handsBack, onceTested}
 use Rattle.base.proofs.Picks.{pick-yes}
 use Rattle.base.proofs.Tests.{and-left, and-right, and-both, is-true}
 use Rattle.chip.specs.declared.Chip.{Chip}
@@ -23,6 +24,7 @@ use Rattle.chip.proofs.Valid.{reset-valid, scanned-valid}
 use Rattle.chain.specs.declared.Chain.{Chain}
 use Rattle.chain.specs.Chain.{most, chipCount, allValid, validChain, testedOf, checkedFrom, played}
 use Rattle.chain.specs.Entries.{chipAt, withChip, startChain, startedOf, playedOf, scannedOf}
+use Rattle.chain.specs.Blocks.{risesIn, blockOf}
 
 -- ---- the tests
 
@@ -84,3 +86,11 @@ module _ (n : ℕ) (ch : Chain) (passed : testedOf n ch ≡ done tt) where
   scan-done j bytes h =
       ap₂ (λ t b. onceTested t ch (pick b (record { state = withChip j (scanned bytes (chipAt j ch)) ch; told = done (recorded bytes (chipAt j ch)) }) (handsBack ch 2 0)))
       passed (lt-ltb j n h)
+
+  pub block-done : (ss list : List ℕ) → checkedFrom 0 ss ≡ done tt → length (risesIn ch ss) ≤ length list
+      → blockOf n ch ss list ≡ record { state = played n ss ch; told = done (length (risesIn ch ss)) }
+  unfolding blockOf
+  block-done ss list fine room =
+      let plays : Outcome Chain ℕ = record { state = played n ss ch; told = done (length (risesIn ch ss)) } in
+      ap₂ (λ t u. onceTested t ch (onceTested u ch (pick (leb (length (risesIn ch ss)) (length list)) plays (handsBack ch 8 0)))) passed fine
+      ∙ pick-yes plays (handsBack ch 8 0) (le-leb (length (risesIn ch ss)) (length list) room)

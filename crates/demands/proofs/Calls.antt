@@ -102,7 +102,7 @@ samples-blocks (play block ∷ calls) = samples-append block (eventsOf calls) �
 samples-blocks (scan k bytes ∷ calls) = samples-blocks calls
 
 -- a block has no scans
-below-block : (n : ℕ) (block : List ℕ) (es : List Event) → ScansBelow n (map sample block ++ es) → ScansBelow n es
+pub below-block : (n : ℕ) (block : List ℕ) (es : List Event) → ScansBelow n (map sample block ++ es) → ScansBelow n es
 below-block n [] es below = below
 below-block n (s ∷ block) es below = below-block n block es below
 

@@ -1,5 +1,6 @@
 -- Demand 1, the exact table, of the entries on a chain: specs/Tables.antt.
 --     start-exact, host-sees-exact, play-exact      chain, chain::play
+--     block-exact                                   chain::blocks
 --     scan-exact, apply-exact, segments-exact       chain::one
 --     find-exact                                    chain::finder
 -- Assumes nothing.
@@ -7,15 +8,18 @@ use mathlib.Core.Path.{subst}
 use mathlib.Core.List.{List, [], _∷_, _++_, append-nil}
 use Prim.Native.Nat.{ℕ, suc}
 use lib.Dec.{leb, ltb}
+use lib.ListN.{length}
 use Rattle.base.specs.Refusals.{Told, done, refused, Outcome, onceTested}
 use Rattle.word.specs.declared.Command.{Command}
 use Rattle.word.specs.Words.{legal}
 use Rattle.chain.specs.declared.Chain.{Chain}
 use Rattle.chain.specs.Chain.{chipCount, checkedFrom, testedOf}
 use Rattle.chain.specs.Entries.{startedOf, playedOf, scannedOf, appliedOf, segmentsOf, seenOf}
+use Rattle.chain.specs.Blocks.{risesIn, blockOf}
 use Rattle.chain.specs.Finder.{reported, lookedOf, foundOf}
-use Rattle.demands.specs.Exact.{Row, each, Exactly}
-use Rattle.demands.specs.Tables.{sampleRow, startTable, chainTable, playTable, oneTable, oneApplyTable, findTable}
+use Rattle.demands.specs.Exact.{Row, row, each, Exactly}
+use Rattle.demands.specs.Refusals.{ListShort}
+use Rattle.demands.specs.Tables.{sampleRow, startTable, chainTable, playTable, blockTable, oneTable, oneApplyTable, findTable}
 use Rattle.demands.proofs.Conditions.{leb-tests, ltb-tests, count-tests, legal-tests, chain-tests}
 use Rattle.demands.proofs.ByTable.{ByTable, answered, by-table, tested, told-by, stays, goes-on, done-done}
 
@@ -59,6 +63,15 @@ play-exact n ch samples =
     by-table
     (told-after (testedOf n ch) _ _ (each sampleRow 0 samples) (first-tests n ch)
     (told-only (checkedFrom 0 samples) _ _ _ (sample-tests 0 samples)))
+
+pub block-exact : (n : ℕ) (ch : Chain) (samples list : List ℕ) → Exactly (blockOf n ch samples list .told) (blockTable n ch samples list)
+unfolding blockOf
+block-exact n ch samples list =
+    let room = leb (length (risesIn ch samples)) (length list) in
+    by-table
+    (told-after (testedOf n ch) _ _ (each sampleRow 0 samples ++ row 8 (ListShort ch samples list) ∷ []) (first-tests n ch)
+    (told-after (checkedFrom 0 samples) _ _ (row 8 (ListShort ch samples list) ∷ []) (sample-tests 0 samples)
+    (told-by room _ _ (tested _ (leb-tests (length (risesIn ch samples)) (length list)) (answered tt)))))
 
 pub scan-exact : (n : ℕ) (ch : Chain) (k : ℕ) (bytes : List ℕ) → Exactly (scannedOf n ch k bytes .told) (oneTable n ch k)
 unfolding scannedOf

@@ -26,6 +26,8 @@ pub mod Readings
 pub mod Named
 pub mod UnchangedTally
 pub mod Unchanged
+pub mod Blocks
+pub mod BlockCalls
 pub mod RisePlaces
 pub mod Direct
 pub mod Whole

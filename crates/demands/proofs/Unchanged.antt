@@ -1,5 +1,6 @@
 -- Demand 1, "a refusal changes no chip and no byte of a lent buffer": the theorem.
 --     by-pick, by-after             a choice, and a test before it, hand back what their sides do
+--     block-kept, list-kept         a refused block hands back its record and its list
 --     front-of, rest-of             what is laid at an array's front, and the rest of it
 --     text-kept                     what a refused text leaves
 --     alone-zero, answer-as         an answer of one number, refused; an answer that is as a contract says
@@ -20,7 +21,9 @@ use Rattle.word.specs.declared.Command.{Command}
 use Rattle.word.specs.Words.{decodedOf, legal}
 use Rattle.chip.specs.Record.{valid}
 use Rattle.chip.specs.Entries as One
+use Rattle.chain.specs.declared.Chain.{Chain}
 use Rattle.chain.specs.Chain.{chipCount, checkedFrom, testedOf}
+use Rattle.chain.specs.Blocks.{risesIn, blockOf, listBy}
 use Rattle.chain.specs.Finder.{Report, reported, noReport, lookedOf, foundOf}
 use Rattle.chain.specs.Entries.{startedOf, playedOf, scannedOf, appliedOf, segmentsOf, seenOf}
 use Rattle.writer.specs.Rows.{written}
@@ -52,6 +55,19 @@ by-after (refused number place) given next p = λ m q e. refl
 by-report : (t : Told (Unit {0})) (report : Report) → HandsBack (reported t report) noReport
 by-report (done u) report = λ m q e. never e
 by-report (refused number place) report = λ m q e. refl
+
+-- ---- a block
+
+-- a refused one hands back its record
+pub block-kept : (n : ℕ) (ch : Chain) (ss list : List ℕ) → HandsBack (blockOf n ch ss list) ch
+unfolding blockOf
+block-kept n ch ss list =
+    by-after (testedOf n ch) ch _
+    (by-after (checkedFrom 0 ss) ch _ (by-pick (leb (length (risesIn ch ss)) (length list)) _ _ (λ m q e. never e) (λ m q e. refl)))
+
+-- and its list
+pub list-kept : (t : Told ℕ) (places list : List ℕ) {number place : ℕ} → t ≡ refused number place → listBy t places list ≡ list
+list-kept t places list e = ap (λ x. listBy x places list) e
 
 -- ---- the writer
 
@@ -116,6 +132,10 @@ refusals-change-nothing =
       play =
           λ n ch samples r e.
           by-contract e (by-after (testedOf n ch) ch _ (by-after (checkedFrom 0 samples) ch _ (λ m q f. never f)));
+      block = λ n ch samples list list′ r b. (
+        by-contract (b .answer) (block-kept n ch samples list),
+        λ m q e. b .places ∙ list-kept (blockOf n ch samples list .told) (risesIn ch samples) list (sym (ap (λ o. o .told) (b .answer)) ∙ e),
+      );
       scan = λ n ch k bytes r e. by-contract e (by-after (testedOf n ch) ch _ (by-pick (ltb k n) _ _ (λ m q f. never f) (λ m q f. refl)));
       apply =
           λ n ch k command r e.

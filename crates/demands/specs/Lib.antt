@@ -15,5 +15,6 @@ pub mod WiresTexts
 pub mod WiresUnchanged
 pub mod Direct
 pub mod Whole
+pub mod Blocks
 pub mod Asleep
 pub mod Alone

@@ -15,6 +15,7 @@ use Rattle.chip.specs.Record.{none}
 use Rattle.chain.specs.declared.Chain.{Chain}
 use Rattle.chain.specs.Chain.{most}
 use Rattle.chain.specs.Entries.{chipAt}
+use Rattle.chain.specs.Blocks.{risesIn}
 use Rattle.word.specs.Ranges.{ranges}
 
 -- 1: a sample is above 7
@@ -122,6 +123,10 @@ AcceptedBefore n ws place =
 -- 8: the buffer is shorter than the samples, 24N + 2 for each row
 abbrev pub BufferShort : ℕ → List ℕ → List ℕ → Type 0
 BufferShort n ws out = length out < (24 * n + 2) * (length ws / n)
+
+-- 8, of a list that is lent for the places of a block's LOAD rises: it is shorter than they are (C-11)
+abbrev pub ListShort : Chain → List ℕ → List ℕ → Type 0
+ListShort ch samples list = length list < length (risesIn ch samples)
 
 -- 12, of a chip record: what no chip can hold
 pub data Unheld (c : Chip) : Type 0 where

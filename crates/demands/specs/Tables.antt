@@ -1,5 +1,5 @@
 -- Document 01, "Refusal numbers": the table of each entry, its refusals in document 01's order: 3, 12, 9, then 4, 5, then words
--- from the first on (6, 7, 13; the place is named), then 8; samples and a scan's chip after 3 and 12. A table has the refusals
+-- from the first on (6, 7, 13; the place is named), then 8; samples and a scan's chip after 3 and 12, and a list's 8 after the samples. A table has the refusals
 -- that the entry's arguments can give rise to. proofs/Exact.antt, ExactChain.antt, ExactWriter.antt and ExactLibrary.antt prove that each
 -- entry keeps to its table; a text's table is in specs/Texts.antt, that of a tally's text in specs/Tallies.antt.
 -- Assumes nothing.
@@ -10,7 +10,7 @@ use Rattle.word.specs.declared.Command.{Command}
 use Rattle.chip.specs.declared.Chip.{Chip}
 use Rattle.chain.specs.declared.Chain.{Chain}
 use Rattle.demands.specs.Exact.{Row, names, row, each}
-use Rattle.demands.specs.Refusals.{SampleAbove7, ChipNotBelow, NotOneToMost, NotMultiple, MoreThan64Rows, OutOfRange, NumbersOutOfRange, Unlisted, KeypadBeforeLast, SleepsLit, BufferShort, Unheld, LevelsAbove7, UnheldChain}
+use Rattle.demands.specs.Refusals.{SampleAbove7, ChipNotBelow, NotOneToMost, NotMultiple, MoreThan64Rows, OutOfRange, NumbersOutOfRange, Unlisted, KeypadBeforeLast, SleepsLit, BufferShort, ListShort, Unheld, LevelsAbove7, UnheldChain}
 
 -- ---- words
 
@@ -61,6 +61,10 @@ chainTable n ch = row 3 (NotOneToMost n) ∷ row 12 (UnheldChain n ch) ∷ []
 -- chain::play::play
 abbrev pub playTable : ℕ → Chain → List ℕ → List Row
 playTable n ch samples = row 3 (NotOneToMost n) ∷ row 12 (UnheldChain n ch) ∷ sampleRows samples
+
+-- chain::blocks::block
+abbrev pub blockTable : ℕ → Chain → List ℕ → List ℕ → List Row
+blockTable n ch samples list = playTable n ch samples ++ row 8 (ListShort ch samples list) ∷ []
 
 -- chain::one::scan and chain::one::segments_lit
 abbrev pub oneTable : ℕ → Chain → ℕ → List Row

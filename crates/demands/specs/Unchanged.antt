@@ -23,8 +23,10 @@ use Rattle.chip.specs.Entries as One
 use Rattle.chain.specs.declared.Chain.{Chain}
 use Rattle.chain.specs.declared.HandedChain.{HandedChain}
 use Rattle.chain.specs.declared.Seen.{Seen}
+use Rattle.chain.specs.declared.blocks.AfterBlock.{AfterBlock}
 use Rattle.chain.specs.declared.one.Scanned.{Scanned}
 use Rattle.chain.specs.declared.finder.Found.{Found}
+use Rattle.chain.specs.Blocks.{risesTell, handedBlock, Blocks}
 use Rattle.chain.specs.Finder.{handedFound, foundOf, noReport}
 use Rattle.chain.specs.Entries.{handedChain, startedOf, zeroChain, playedOf, handedScan, scannedOf, appliedOf, handedLit, segmentsOf, handedSeen, seenOf}
 use Rattle.writer.specs.declared.Written.{Written}
@@ -89,6 +91,9 @@ pub record RefusalsChangeNothing : Type 0 where
   -- a chain: the chain handed back is the one given (`start`: zeros); no segment is lit, the host sees low, no rise and 0 passed
   pub start : (n : ℕ) (r : HandedChain) → handedChain r ≡ startedOf n → HandsBack (handedChain r) zeroChain
   pub play : (n : ℕ) (ch : Chain) (samples : List ℕ) (r : HandedChain) → handedChain r ≡ playedOf n ch samples → HandsBack (handedChain r) ch
+  -- a block: also the lent list is as it was
+  pub block : (n : ℕ) (ch : Chain) (samples list list′ : List ℕ) (r : AfterBlock) → Blocks n ch samples list r list′
+      → HandsBack (handedBlock r) ch × ((number place : ℕ) → risesTell (r .answer) ≡ refused number place → list′ ≡ list)
   pub scan : (n : ℕ) (ch : Chain) (k : ℕ) (bytes : List ℕ) (r : Scanned) → handedScan r ≡ scannedOf n ch k bytes → HandsBack (handedScan r) ch
   pub apply : (n : ℕ) (ch : Chain) (k : ℕ) (command : Command) (r : HandedChain) → handedChain r ≡ appliedOf n ch k command → HandsBack (handedChain r) ch
   pub segments : (n : ℕ) (ch : Chain) (k : ℕ) (r : Lit) → handedLit r ≡ segmentsOf n ch k → HandsBack (handedLit r) blank
