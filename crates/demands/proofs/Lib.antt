@@ -28,6 +28,7 @@ pub mod UnchangedTally
 pub mod Unchanged
 pub mod Blocks
 pub mod BlockCalls
+pub mod BlockPlaces
 pub mod RisePlaces
 pub mod Direct
 pub mod Whole

@@ -4,6 +4,7 @@
 --     Sends, NoneRefused               results of calls as the contracts allow them; no call among them was refused
 --     LongEnough, BlocksOnly           each list has room for its block's rises; there is no scan among the calls
 --     placesIn                         the places that calls wrote, earlier blocks' lengths added, joined
+--     Among, Climbs, RisesListed       what the places of a block are: all its LOAD rises, each once, in rising order
 --     CutAlike, CutLaw                 blocks beside one call over the whole
 --     RefusedAlone, acceptedIn         a refused call changed nothing; the samples of the accepted blocks, joined
 --     CutException                     what any blocks and lists leave
@@ -11,9 +12,9 @@
 --     SentRun                          the calls that these speak of have results
 -- Assumes nothing.
 use mathlib.Core.Path.{_≡_}
-use mathlib.Core.Logic.{_⊎_}
+use mathlib.Core.Logic.{_⊎_, _↔_}
 use mathlib.Core.List.{List, [], _∷_, _++_, map}
-use Prim.Native.Nat.{ℕ, _+_, _≤_}
+use Prim.Native.Nat.{ℕ, suc, _+_, _≤_, _<_}
 use lib.Dec.{T}
 use lib.ListN.{length, take}
 use Rattle.base.specs.Below.{AllBelow}
@@ -26,14 +27,32 @@ use Rattle.chain.specs.declared.one.Scanned.{Scanned}
 use Rattle.chain.specs.Chain.{chipCount, validChain, played}
 use Rattle.chain.specs.Entries.{handedScan, scannedOf}
 use Rattle.chain.specs.Events as Events
-use Rattle.chain.specs.Blocks.{risesIn, risesTell, Blocks}
+use Rattle.chain.specs.Blocks.{risesFrom, risesIn, risesTell, Blocks}
 use Rattle.writer.specs.declared.Written.{Written}
 use Rattle.writer.specs.declared.Written.the-variants.{Samples}
 use Rattle.writer.specs.Written.{Writes}
 use Rattle.demands.specs.Demand3.{AskedChain}
 use Rattle.demands.specs.Calls.{Call, Ran, eventsOf, blocksOf}
 use Rattle.demands.specs.Calls as Calls
-use Rattle.demands.specs.Whole.{WholePlay}
+use Rattle.demands.specs.Whole.{RisesAt, WholePlay}
+
+-- ---- the places of one block
+
+-- a number stands in a list
+abbrev pub Among : ℕ → List ℕ → Type 0
+Among p [] = ⊥
+Among p (x ∷ xs) = (x ≡ p) ⊎ Among p xs
+
+-- from some number on, each is above the one before it
+abbrev pub Climbs : ℕ → List ℕ → Type 0
+Climbs least [] = Unit {0}
+Climbs least (x ∷ xs) = (least ≤ x) × Climbs (suc x) xs
+
+-- the places at which LOAD rises, given the levels before, and no others; each once, in rising order
+abbrev pub RisesListed : Type 0
+RisesListed =
+    (was : ℕ) (samples : List ℕ)
+    → ((p : ℕ) → Among p (risesFrom 0 was samples) ↔ ((p < length samples) × RisesAt was samples p)) × Climbs 0 (risesFrom 0 was samples)
 
 -- ---- calls and results
 
