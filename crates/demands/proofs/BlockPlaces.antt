@@ -1,12 +1,10 @@
 -- The places of a block's LOAD rises: specs/Blocks.antt.
 --     rises-listed     they are where LOAD rises, and no others, each once, in rising order
---     block-lowest     1, of `block`: the lowest place of a sample above 7
---     block-eight      8, of `block`: every sample is at most 7, and the list is shorter than the rises
 -- Assumes nothing.
 use mathlib.Core.Path.{_≡_, refl, sym, subst}
 use mathlib.Core.Bool.{Bool, true, false}
-use mathlib.Core.Logic.{_⊎_, inl, inr, _↔_}
-use mathlib.Core.List.{List, [], _∷_, _++_}
+use mathlib.Core.Logic.{inl, inr}
+use mathlib.Core.List.{List, [], _∷_}
 use Prim.Native.Nat.{ℕ, zero, suc, _+_, _≤_, _<_}
 use native.Mathlib.Nat.{not-suc-le-zero, le-of-suc-le-suc}
 use native.Mathlib.Omega.{arith}
