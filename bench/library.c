@@ -9,7 +9,7 @@
 #include "twin.h"
 #include "zhaqsumir.h"
 
-enum { TURNS = 9, CHIPS = 8, ROWS = 64, BLOCK = 65536, PANEL_COMMANDS = ZHAQSUMIR_CH450_MOST_COMMANDS };
+enum { CHIPS = 8, ROWS = 64, BLOCK = 65536, PANEL_COMMANDS = ZHAQSUMIR_CH450_MOST_COMMANDS };
 
 /* A CH450's panel at power-on, played and then asked what it lights: as numbers, and by the twin's record. */
 static unsigned long play_numbers(const unsigned char *from, unsigned long count)
@@ -51,6 +51,8 @@ static const struct side sides[2] = {
       zhaqsumir_ch450_write, play_numbers },
     { twin_decode, twin_encode, twin_write, twin_find, twin_replay, twin_ch450_encode, twin_ch450_write, play_record },
 };
+
+#include "turns.h"
 
 static unsigned short words[ROWS * CHIPS], sleeping[ROWS * CHIPS];
 static unsigned char samples[ROWS * ZHAQSUMIR_ROW_SAMPLES(CHIPS)], slept[sizeof samples], block[BLOCK];
@@ -166,10 +168,7 @@ static unsigned long play_panel(const struct side *side)
     return side->ch450_play(panel_samples, sizeof panel_samples);
 }
 
-static const struct job {
-    const char *name;
-    unsigned long (*work)(const struct side *);
-} jobs[] = {
+static const struct job jobs[] = {
     { "write: 64 rows of 8 chips", write_rows },
     { "write: a row of resets, 63 rows of sleep", write_sleep },
     { "find: 65,536 samples without a rise", find_none },
@@ -234,61 +233,6 @@ static int prepare(const char *name)
     return 1;
 }
 
-/* ---- the clock ---- */
-
-static unsigned long now(void)
-{
-    struct timespec time;
-
-    clock_gettime(CLOCK_MONOTONIC, &time);
-    return (unsigned long)time.tv_sec * 1000000000 + (unsigned long)time.tv_nsec;
-}
-
-static unsigned long timed(const struct job *job, int side, unsigned long times, unsigned long told[2])
-{
-    unsigned long began = now(), i;
-
-    for (i = 0; i < times; i++)
-        told[side] = job->work(&sides[side]);
-    return now() - began;
-}
-
-static unsigned long median(unsigned long times[TURNS])
-{
-    int i, j;
-
-    for (i = 1; i < TURNS; i++) {
-        for (j = i; j > 0 && times[j - 1] > times[j]; j--) {
-            unsigned long other = times[j];
-
-            times[j] = times[j - 1];
-            times[j - 1] = other;
-        }
-    }
-    return times[TURNS / 2];
-}
-
-static int compare(const struct job *job)
-{
-    unsigned long turns[2][TURNS], told[2], times = 1;
-    double proved, plain;
-    int i, side;
-
-    timed(job, 0, 1, told);
-    while (timed(job, 1, times, told) < 20000000)                               /* a turn takes 20 ms or more */
-        times *= 2;
-    for (i = 0; i < TURNS; i++) {
-        for (side = 0; side < 2; side++)
-            turns[side][i] = timed(job, side, times, told);
-    }
-    proved = (double)median(turns[0]) / (double)times / 1000;
-    plain = (double)median(turns[1]) / (double)times / 1000;
-    printf("%s\t%.2f\t%.2f\t%.3f\n", job->name, proved, plain, proved / plain);
-    if (told[0] != told[1])
-        fprintf(stderr, "%s: the answers differ\n", job->name);
-    return told[0] == told[1];
-}
-
 int main(int count, char **given)
 {
     unsigned long told[2];
@@ -302,7 +246,11 @@ int main(int count, char **given)
         timed(&jobs[strtoul(given[2], NULL, 10) % JOBS], strtoul(given[3], NULL, 10) % 2, strtoul(given[4], NULL, 10), told);
         return 0;
     }
-    for (i = 0; i < JOBS; i++)
-        same &= compare(&jobs[i]);
+    for (i = 0; i < JOBS; i++) {
+        double us[2];
+
+        same &= compare(&jobs[i], us);
+        printf("%s\t%.2f\t%.2f\t%.3f\n", jobs[i].name, us[0], us[1], us[0] / us[1]);
+    }
     return !same;
 }

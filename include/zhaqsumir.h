@@ -1,5 +1,6 @@
-/* The proved functions of Zhaqsumir for C: words, the writer, the finder, the replay of a capture and the tally over captures; and, named
- * zhaqsumir_ch450_, those for the one CH450 of an old kiosk: its words, its writer, and a panel that is played.
+/* The proved functions of Zhaqsumir for C: words, the writer, the finder, the replay of a capture and the tally over captures; a panel of
+ * CH452 chips that the caller keeps, into which blocks of samples are played as they arrive; and, named zhaqsumir_ch450_, those for the
+ * one CH450 of an old kiosk: its words, its writer, and a panel that is played.
  *
  * Link target/staticlib/libzhaqsumir.a, which `rt staticlib zhaqsumir` makes, for x86-64 Linux. C11 or C++11; no other header is
  * needed. "Document 01" is the requirements, and its words are used: a word is a 12-bit command of a CH452, a sample is the three
@@ -8,21 +9,21 @@
  *
  * Every function writes an array of numbers, the answer. Its first number is 0, or the number of a refusal; its second is the
  * place that the refusal names, or 0. Places count from 0 in what this call was given; only the lines of a text count from 1. What
- * answer and out held before never alters the answer. No function keeps anything between calls, has a heap or calls the system, so
+ * answer, out and rises held before never alters the answer. No function keeps anything between calls, has a heap or calls the system, so
  * several threads may call at once, each with its own memory; a tally or a panel that goes on from call to call is the caller's memory
  * too. Of the C library the archive needs memcpy alone.
  *
- * No value is a bad call: any word, level, N, field, sample, count, key code, number of a panel and byte of text is answered, at worst by
- * a refusal. Bad calls are those that C allows and Rattle doesn't. They are the caller's: nothing tests them, and after one nothing that
- * is said here holds.
+ * No value is a bad call: any word, level, N, chip, field, sample, contact, count, key code, number of a panel and byte of text is
+ * answered, at worst by a refusal. Bad calls are those that C allows and Rattle doesn't. They are the caller's: nothing tests them, and
+ * after one nothing that is said here holds.
  *   - No pointer is null, not even where its length is 0 or where nothing is written.
- *   - A pointer is aligned for its type: an even address for words, a multiple of 8 for unsigned long.
+ *   - A pointer is aligned for its type: an even address for words, a multiple of 8 for unsigned long and for a zhaqsumir_panel.
  *   - A length counts elements, and its pointer has at least so many. An array has at least the size that stands here.
- *   - What a function writes (answer, out; of a tally chips, codes and largest; panel, where it is played) overlaps nothing else that
- *     the call is given. What it only reads may overlap.
+ *   - What a function writes (answer, out, rises; of a tally chips, codes and largest; panel, where it is started, played or scanned)
+ *     overlaps nothing else that the call is given. What it only reads may overlap.
  *   - All of it is the caller's own memory during the whole call, and can be read; what a function writes can be written. Bytes of
- *     answer and out that were never set are no fault. No thread, interrupt or device writes any of it, or reads what the function
- *     writes, before the call is over.
+ *     answer, out and rises, and of a panel that is started, that were never set are no fault. No thread, interrupt or device writes any
+ *     of it, or reads what the function writes, before the call is over.
  */
 #ifndef ZHAQSUMIR_H
 #define ZHAQSUMIR_H
@@ -60,6 +61,8 @@ enum {
 #define ZHAQSUMIR_REPLAY_ROOM (ZHAQSUMIR_MOST_CHIPS / 4 * 9 * ZHAQSUMIR_MOST_TEXT + 13)
 #define ZHAQSUMIR_TALLY_CHIPS (ZHAQSUMIR_MOST_CHIPS * 4) /* the counts of a tally, four for each chip */
 #define ZHAQSUMIR_TALLY_CODES 128                       /* and one for each code of seven bits */
+#define ZHAQSUMIR_PANEL 202                             /* the numbers of a panel of CH452 chips: 2, and 25 for each of 8 chips */
+#define ZHAQSUMIR_MOST_RISES(count) ((count) / 2 + (count) % 2) /* the LOAD rises in so many samples, at most */
 #define ZHAQSUMIR_CH450_MOST_COMMANDS 64
 #define ZHAQSUMIR_CH450_COMMAND_SAMPLES 40ul            /* the samples of a CH450 command */
 #define ZHAQSUMIR_CH450_PANEL 14                        /* the numbers of a CH450's panel */
@@ -68,7 +71,8 @@ enum {
 enum {
     ZHAQSUMIR_NO_REFUSAL = 0,
     ZHAQSUMIR_BAD_SAMPLE = 1,    /* a sample is above 7, or of two wires above 3 (the lowest place is named) */
-    ZHAQSUMIR_BAD_SCAN_CHIP = 2, /* a scan's chip is not below N (no function here gives it: inside text it is 10) */
+    ZHAQSUMIR_BAD_SCAN_CHIP = 2, /* a scan's chip is not below N (inside text it is 10) */
+    ZHAQSUMIR_BAD_LIT_CHIP = 2,  /* the chip that is asked for its segments is not below N */
     ZHAQSUMIR_BAD_CHIPS = 3,     /* N is not 1 to 8 */
     ZHAQSUMIR_PART_ROW = 4,      /* list length isn't a multiple of N */
     ZHAQSUMIR_MANY_ROWS = 5,     /* more than 64 rows */
@@ -76,15 +80,17 @@ enum {
     ZHAQSUMIR_BAD_WORD = 6,      /* a word given to the writer or the decoder is unlisted or above 4,095 */
     ZHAQSUMIR_EARLY_KEYPAD = 7,  /* a system word with KEYB 1 for a chip that isn't the last */
     ZHAQSUMIR_SHORT_BUFFER = 8,  /* the buffer is shorter than the samples */
+    ZHAQSUMIR_SHORT_LIST = 8,    /* the list is shorter than the LOAD rises */
     ZHAQSUMIR_BAD_FIELD = 9,     /* a command field is out of range */
     ZHAQSUMIR_BAD_KEY = 9,       /* a key code is above 127 */
     ZHAQSUMIR_BAD_COMMAND = 9,   /* a word of a CH450's list is neither of parameters nor of a digit (the lowest place is named) */
     ZHAQSUMIR_BAD_LINE = 10,     /* a line isn't of the form that zhaqsumir_replay asks for, the first missing included */
     ZHAQSUMIR_LONG_TEXT = 11,    /* text longer than 65,536 bytes */
-    /* 12 is for values that are handed over. Document 01 has more of them, records and kept levels of CH452 chips; no function here takes those */
+    /* 12 is for values that are handed over */
     ZHAQSUMIR_BAD_LEVELS = 12,   /* the levels given are above 7 */
     ZHAQSUMIR_BAD_LARGEST = 12,  /* a tally's largest N is above 8 */
-    ZHAQSUMIR_BAD_PANEL = 12,    /* the numbers are of no panel that a CH450 can have */
+    ZHAQSUMIR_BAD_PANEL = 12,    /* the levels of a panel of CH452 chips, or a number of a chip below N, are out of the range that stands
+                                  * below; or the numbers are of no panel that a CH450 can have */
     ZHAQSUMIR_LIT_SLEEP = 13,    /* a sleep word for a chip whose display and keypad weren't switched off before it in the same list */
     ZHAQSUMIR_FULL_COUNT = 16    /* some count of a tally plus the line's number of samples and scans is above 2^64 - 1 */
 };
@@ -142,6 +148,21 @@ enum {
 
     ZHAQSUMIR_TALLY_ANSWER = 2,
 
+    ZHAQSUMIR_START_ANSWER = 2,
+
+    ZHAQSUMIR_RISES_LISTED = 2,
+    ZHAQSUMIR_BLOCK_ANSWER = 3,
+
+    ZHAQSUMIR_SCAN_TOLD = 2,          /* one of the four things below */
+    ZHAQSUMIR_SCAN_CODE = 3,          /* the code that was recorded, or 0 */
+    ZHAQSUMIR_SCAN_ANSWER = 4,
+
+    ZHAQSUMIR_SEGMENTS = 2,           /* eight of them, DIG0 first */
+    ZHAQSUMIR_LIT_ANSWER = 10,
+
+    ZHAQSUMIR_DOUT_SEEN = 2,          /* 0 low, 1 high */
+    ZHAQSUMIR_SEES_ANSWER = 3,
+
     ZHAQSUMIR_CH450_COMMAND = 5,      /* what a command of a CH450 takes: a kind and four fields; its answers are as above */
 
     ZHAQSUMIR_CH450_READS = 2,
@@ -158,6 +179,51 @@ enum {
     ZHAQSUMIR_OVERWRITTEN = 2,        /* codes recorded over an unread one, while an interrupt stood */
     ZHAQSUMIR_CLEARED = 3             /* interrupts cleared by reset, or by system parameters with KEYB 0 */
 };
+
+/* What a scan did: one of four things. */
+enum {
+    ZHAQSUMIR_SCAN_NOTHING = 0,       /* nothing recorded */
+    ZHAQSUMIR_SCAN_KEY = 1,           /* a code recorded */
+    ZHAQSUMIR_SCAN_OVER_UNREAD = 2,   /* a code recorded over an unread one, which is lost: an interrupt stood before the scan */
+    ZHAQSUMIR_SCAN_RELEASE = 3        /* a release noted: bit 6 of the code was 1 and is 0 */
+};
+
+/* The 202 numbers of a panel of CH452 chips: these two, then 25 for each of 8 chips. Number i of chip k is
+ * numbers[ZHAQSUMIR_PANEL_CHIP(k) + i]. */
+enum {
+    ZHAQSUMIR_PANEL_CHIPS = 0,        /* N, 1 to 8 */
+    ZHAQSUMIR_PANEL_LEVELS = 1        /* the sample last played, 0 to 7; the next block goes on from it */
+};
+#define ZHAQSUMIR_CHIP_NUMBERS 25
+#define ZHAQSUMIR_PANEL_CHIP(k) (2ul + ZHAQSUMIR_CHIP_NUMBERS * (k))
+
+/* The 25 numbers of a chip, each with its range; a bit is 0 or 1. A reset keeps the first three; the others become 0, the last scan 64. */
+enum {
+    ZHAQSUMIR_CHIP_REGISTER = 0,      /* 0 to 4,095 */
+    ZHAQSUMIR_CHIP_LATCH = 1,         /* a bit, which DOUT shows while KEYB is 0 */
+    ZHAQSUMIR_CHIP_READOUT = 2,       /* the code of the readout, 0 to 127; with no bits left that of the last one, any of 0 to 255 */
+    ZHAQSUMIR_CHIP_READOUT_LEFT = 3,  /* the bits of it that are left, 0 to 7; 0 where no readout runs */
+    ZHAQSUMIR_CHIP_INTM = 4,          /* a bit; this and the next four are the system parameters */
+    ZHAQSUMIR_CHIP_SSPD = 5,          /* a bit */
+    ZHAQSUMIR_CHIP_DPLR = 6,          /* a bit */
+    ZHAQSUMIR_CHIP_KEYB = 7,          /* a bit */
+    ZHAQSUMIR_CHIP_DISP = 8,          /* a bit */
+    ZHAQSUMIR_CHIP_MODE = 9,          /* a bit; this and the next one are the display parameters */
+    ZHAQSUMIR_CHIP_LIMIT = 10,        /* 0 to 7 (0 means 8) */
+    ZHAQSUMIR_CHIP_BLINK = 11,        /* the blink byte, 0 to 255 */
+    ZHAQSUMIR_CHIP_CUSTOM = 12,       /* the custom character, 0 to 127 */
+    ZHAQSUMIR_CHIP_SLEEPING = 13,     /* a bit */
+    ZHAQSUMIR_CHIP_DIGITS = 14,       /* the data bytes of DIG0 to DIG7, eight of them, 0 to 255 each */
+    ZHAQSUMIR_CHIP_CODE = 22,         /* the key code, 0 to 127 */
+    ZHAQSUMIR_CHIP_INTERRUPT = 23,    /* a bit: 1 while the code is unread */
+    ZHAQSUMIR_CHIP_LAST_SCAN = 24     /* the smallest closed address of the last scan, 0 to 63, or 64: none */
+};
+enum { ZHAQSUMIR_NO_KEY = 64 };       /* the last scan closed no contact; so it is too after a reset, KEYB 0 and a scan that wakes a chip */
+
+/* A panel of CH452 chips. It is the caller's, goes on from call to call, and may be copied, kept and handed over again like any struct. */
+typedef struct {
+    unsigned long numbers[ZHAQSUMIR_PANEL];
+} zhaqsumir_panel;
 
 /* The 14 numbers of a CH450's panel. */
 enum {
@@ -250,6 +316,61 @@ void zhaqsumir_replay(const unsigned char *text, unsigned long length, unsigned 
  * chips, codes and largest as they were. */
 void zhaqsumir_tally(const unsigned char *text, unsigned long length, unsigned long chips[ZHAQSUMIR_TALLY_CHIPS],
                      unsigned long codes[ZHAQSUMIR_TALLY_CODES], unsigned long *largest, unsigned long answer[2]);
+
+/* A panel of n chips at the start: the chips reset, with a zero register and a latch of 1, and the wires idle.
+ * panel: its 202 numbers are all set, those of chips from n on too, which are reset likewise.
+ * answer: the refusal, 0.
+ * Refused: BAD_CHIPS (3) where n isn't 1 to 8; panel is then left as it was. */
+void zhaqsumir_start(unsigned long n, zhaqsumir_panel *panel, unsigned long answer[ZHAQSUMIR_START_ANSWER]);
+
+/* Plays a block of samples into a panel, which goes on from what the caller hands over, and lists the block's LOAD rises.
+ * panel: its numbers, as named above. They are read, and hold the panel after the block, its last sample as the levels; an empty block
+ * leaves all as it was. Numbers of chips from N on are not looked at, and stay.
+ * samples: count of them, 0 or more, left as they are.
+ * rises, room: the list, and how many numbers it has. From its front the places of the LOAD rises are written, in rising order; they count
+ * from 0 in this block, whose first sample is a rise too where its LOAD is high and the panel's levels have it low. Numbers past the
+ * written ones keep what they hold. Room for ZHAQSUMIR_MOST_RISES(count) is always enough.
+ * answer: the refusal, the place, how many rises were listed.
+ * Refused, where several hold the first of them: BAD_CHIPS (3), where the panel's N isn't 1 to 8; BAD_PANEL (12); BAD_SAMPLE (1), with the
+ * lowest place of a sample above 7, anywhere in the block; SHORT_LIST (8), where the block has more rises than the list has room. Then
+ * panel, its levels too, and rises are left whole as they were, and 0 rises are listed.
+ * A recording may be cut anywhere, into empty blocks too: where every list is long enough, the blocks one after another lead to the same
+ * panel as one call with all of the samples, and list the same rises, the lengths of the blocks before added to their places. One
+ * exception: a block with a sample above 7 is refused alone, and those before it have been played, where the one call plays none. After a
+ * refused block the panel goes on as if that call had never been made; so one that was refused with 8 may be given again, with a longer
+ * list. */
+void zhaqsumir_block(zhaqsumir_panel *panel, const unsigned char *samples, unsigned long count,
+                     unsigned long *rises, unsigned long room, unsigned long answer[ZHAQSUMIR_BLOCK_ANSWER]);
+
+/* A key scan of one chip of a panel.
+ * panel: its numbers. They are read, and hold the panel after the scan: of that chip SLEEPING, CODE, INTERRUPT and LAST_SCAN may change,
+ * and no other number.
+ * chip: the chip that is scanned, from 0. contacts: byte d, bit s is the contact of DIG d and SEG s, 1 where it is closed; left as
+ * they are. The scan's result is the smallest closed address, 8 SEG + DIG.
+ * Asleep, a contact on SEG0 to SEG3 wakes the chip, and nothing is recorded; awake with KEYB 0, nothing happens. With KEYB 1 two
+ * scans in a row with the same result record its code, 40H + the address, where that isn't the code already, and two without a contact
+ * clear bit 6 of the code.
+ * answer: the refusal, 0, which of the four things above happened, the code that was recorded or 0.
+ * Refused, where several hold the first of them: BAD_CHIPS (3), where the panel's N isn't 1 to 8; BAD_PANEL (12); BAD_SCAN_CHIP (2), where
+ * chip isn't below N. Then panel is left as it was, and the last two numbers are 0. */
+void zhaqsumir_scan(zhaqsumir_panel *panel, unsigned long chip, const unsigned char contacts[8],
+                    unsigned long answer[ZHAQSUMIR_SCAN_ANSWER]);
+
+/* The segments that one chip of a panel lights: none while it sleeps or DISP is 0, and none of a digit that isn't below LIMIT (0 means 8);
+ * else with MODE 0 the data bytes, with MODE 1 the characters that their bits 4 to 0 name, and the point where bit 7 is 1. Bit 0 is
+ * segment A to bit 6 segment G, bit 7 the point.
+ * panel: its numbers, left as they are. chip: the chip that is asked, from 0.
+ * answer: the refusal, 0, the bytes of DIG0 to DIG7.
+ * Refused, where several hold the first of them: BAD_CHIPS (3), where the panel's N isn't 1 to 8; BAD_PANEL (12); BAD_LIT_CHIP (2), where
+ * chip isn't below N. The bytes are then 0. */
+void zhaqsumir_lit(const zhaqsumir_panel *panel, unsigned long chip, unsigned long answer[ZHAQSUMIR_LIT_ANSWER]);
+
+/* What the host sees of a panel: the level of the last chip's DOUT. With KEYB 0 that is the chip's latch; with KEYB 1 the next bit of a
+ * readout that runs, else 0 while an interrupt stands and 1 while none does.
+ * panel: its numbers, left as they are.
+ * answer: the refusal, 0, the level.
+ * Refused, where both hold the first of them: BAD_CHIPS (3), where the panel's N isn't 1 to 8; BAD_PANEL (12). The level is then 0. */
+void zhaqsumir_sees(const zhaqsumir_panel *panel, unsigned long answer[ZHAQSUMIR_SEES_ANSWER]);
 
 /* The word of a CH450 command: byte 1 times 256, plus byte 2, with 0 for the three bits of parameters that are ignored, and for byte 2 of
  * a read (on the wire SDA is let go there: all ones).

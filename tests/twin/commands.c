@@ -1,15 +1,16 @@
 /* "What commands do" to a chip. */
 
-/* All but the register and the latch. */
+/* All but the register, the latch and the code of the readout, which ends: as at every other end of it, no bits are left. */
 static void reset(struct chip *c)
 {
     unsigned short shift = c->shift;
-    unsigned char latch = c->latch;
+    unsigned char latch = c->latch, readout = c->readout;
 
     memset(c, 0, sizeof *c);
     c->last = NONE;
     c->shift = shift;
     c->latch = latch;
+    c->readout = readout;
 }
 
 /* An address is 8 SEG + DIG. */

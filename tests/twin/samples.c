@@ -68,6 +68,7 @@ void start(struct chain *chain, unsigned n)
     for (k = 0; k < n; k++) {
         chain->chips[k].shift = 0;
         chain->chips[k].latch = 1;
+        chain->chips[k].readout = 0;
         reset(&chain->chips[k]);
     }
 }

@@ -8,6 +8,7 @@
 #include "lit.c"
 #include "keys.c"
 #include "writer.c"
+#include "blocks.c"
 #include "text.c"
 #include "counts.c"
 #include "ch450.c"

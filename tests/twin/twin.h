@@ -49,6 +49,23 @@ void twin_write(unsigned long n, const unsigned short *words, unsigned long coun
                 unsigned char *out, unsigned long room, unsigned long answer[3]);
 void twin_find(unsigned char levels, const unsigned char *samples, unsigned long count, unsigned long answer[5]);
 
+/* ---- blocks as they arrive, C-11 ---- */
+
+/* Each of these is given a chain, tests it first (refusal 3, then 12), and where it refuses leaves it as it was. The bits of a record are
+ * 0 or 1. */
+
+/* Plays a block of samples. The places of its LOAD rises go to the list, which has so much room; the third number is how many they are. */
+void twin_block(struct chain *chain, const unsigned char *samples, unsigned long count, unsigned long *rises, unsigned long room,
+                unsigned long answer[3]);
+
+/* Takes a scan of a chip. The third number is what it did (0 nothing, 1 it recorded a code, 2 it recorded one over an unread one, 3 it
+ * noted a release), the fourth the code that it recorded, or 0. */
+void twin_scan(struct chain *chain, unsigned long chip, const unsigned char contacts[8], unsigned long answer[4]);
+
+/* The segments that a chip lights, DIG0 first, and the level of the last chip's DOUT, after the first two numbers. */
+void twin_lit(const struct chain *chain, unsigned long chip, unsigned long answer[10]);
+void twin_sees(const struct chain *chain, unsigned long answer[3]);
+
 /* ---- capture text ---- */
 
 /* The most that a text writes: a LOAD rise takes two samples, so four bytes of text, and writes a line for each chip; at the end comes

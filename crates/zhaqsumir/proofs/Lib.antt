@@ -2,6 +2,10 @@ pub mod Fields
 pub mod Ranges
 pub mod RoundTrips
 pub mod Counts
-pub mod Panels
+pub mod Fitting
+pub mod Ch450Panels
+pub mod ChainRows
+pub mod ChipNumbers
+pub mod ChainPanels
 pub mod TwoWires
 pub mod Unique

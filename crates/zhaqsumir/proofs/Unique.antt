@@ -14,6 +14,11 @@ use Rattle.zhaqsumir.proofs.zhaqsumir_ch450_encode
 use Rattle.zhaqsumir.proofs.zhaqsumir_ch450_write
 use Rattle.zhaqsumir.proofs.zhaqsumir_ch450_play
 use Rattle.zhaqsumir.proofs.zhaqsumir_ch450_lit
+use Rattle.zhaqsumir.proofs.zhaqsumir_start
+use Rattle.zhaqsumir.proofs.zhaqsumir_scan
+use Rattle.zhaqsumir.proofs.zhaqsumir_lit
+use Rattle.zhaqsumir.proofs.zhaqsumir_sees
+use Rattle.zhaqsumir.proofs.panels.block
 
 pub zhaqsumir-decode-unique : AllowsOne zhaqsumir_decode.Kinds.ps zhaqsumir_decode.Kinds.r zhaqsumir_decode.Reads.Learnt
 zhaqsumir-decode-unique κs a x y last last′ p q = (refl, λ i. (tt, (same-answer p q i, tt)))
@@ -57,3 +62,24 @@ zhaqsumir-ch450-play-unique κs a x y last last′ p q =
 
 pub zhaqsumir-ch450-lit-unique : AllowsOne zhaqsumir_ch450_lit.Kinds.ps zhaqsumir_ch450_lit.Kinds.r zhaqsumir_ch450_lit.Reads.Learnt
 zhaqsumir-ch450-lit-unique κs a x y last last′ p q = (refl, λ i. (tt, (same-answer p q i, tt)))
+
+pub zhaqsumir-start-unique : AllowsOne zhaqsumir_start.Kinds.ps zhaqsumir_start.Kinds.r zhaqsumir_start.Reads.Learnt
+zhaqsumir-start-unique κs a x y last last′ p q =
+    (refl, λ i. (tt, (same-answer (p .panel) (q .panel) i, (same-answer (p .numbers) (q .numbers) i, tt))))
+
+pub zhaqsumir-scan-unique : AllowsOne zhaqsumir_scan.Kinds.ps zhaqsumir_scan.Kinds.r zhaqsumir_scan.Reads.Learnt
+zhaqsumir-scan-unique κs a x y last last′ p q =
+    (refl, λ i. (same-answer (p .panel) (q .panel) i, (tt, (tt, (same-answer (p .numbers) (q .numbers) i, tt)))))
+
+pub zhaqsumir-lit-unique : AllowsOne zhaqsumir_lit.Kinds.ps zhaqsumir_lit.Kinds.r zhaqsumir_lit.Reads.Learnt
+zhaqsumir-lit-unique κs a x y last last′ p q = (refl, λ i. (tt, (tt, (same-answer p q i, tt))))
+
+pub zhaqsumir-sees-unique : AllowsOne zhaqsumir_sees.Kinds.ps zhaqsumir_sees.Kinds.r zhaqsumir_sees.Reads.Learnt
+zhaqsumir-sees-unique κs a x y last last′ p q = (refl, λ i. (tt, (same-answer p q i, tt)))
+
+-- the panel, handed over and back by value
+pub block-unique : AllowsOne block.Kinds.ps block.Kinds.r block.Reads.Learnt
+block-unique κs a x y last last′ p q = (
+  λ i. record { numbers = same-answer (p .panel) (q .panel) i },
+  λ i. (tt, (tt, (same-answer (p .places) (q .places) i, (same-answer (p .numbers) (q .numbers) i, tt)))),
+)

@@ -1,8 +1,11 @@
-// The till's own library: the proved functions for C to link, ten entries. Each takes numbers and slices, and answers by numbers
-// in a lent array: a refusal's number and place, 0 and 0 where there is none, then the answer, zeros where it is refused. A replay
-// counts the bytes that it wrote either way; a tally and the panel of a CH450 are lent as numbers, and go on.
+// The till's own library: the proved functions for C to link. Each takes numbers and slices, and answers by numbers in a lent array: a
+// refusal's number and place, 0 and 0 where there is none, then the answer, zeros where it is refused. A replay counts the bytes that it
+// wrote either way; a tally and the panels of CH452s and of a CH450 are lent as numbers, and go on.
 // include/zhaqsumir.h is their header.
+mod chains;
+mod chips;
 mod commands;
+mod panels;
 mod tallied;
 mod two_wires;
 
@@ -11,6 +14,7 @@ use capture::Replayed;
 use chain::finder::Found;
 use chain::finder::Rise;
 use commands::Given;
+pub use panels::Panel;
 use tallies::Tally;
 use word::Decoded;
 use word::Encoded;
@@ -22,6 +26,7 @@ ghost use Rattle.word.specs.Answers.{decodedTells, encodedTells};
 ghost use Rattle.writer.specs.Written.{writtenTells};
 ghost use Rattle.zhaqsumir.specs.Commands.{givenTells};
 ghost use Rattle.zhaqsumir.specs.Numbers as N;
+ghost use Rattle.zhaqsumir.specs.Panels as P;
 ghost use Rattle.zhaqsumir.specs.TwoWires as T;
 
 // The number of a verdict's refusal; 0 where it is none.
@@ -254,4 +259,55 @@ pub extern "C" fn zhaqsumir_ch450_lit(panel: &[u64; 14], answer: &mut [u64; 8])
     ensures { λ _. ⌜ now (answer .exit) ≡ T.ch450Lit (now (panel .entry)) ⌝ }
 {
     *answer = two_wires::lit(panel);
+}
+
+// Starts a CH452 panel of n chips in the 202 numbers lent: number, place.
+#[no_mangle]
+pub extern "C" fn zhaqsumir_start(n: usize, panel: &mut [u64; 202], answer: &mut [u64; 2])
+    ensures { λ _. ⌜ P.StartsNumbers n (now (panel .entry)) (now (answer .exit)) (now (panel .exit)) ⌝ }
+{
+    *answer = panels::start(n, panel);
+}
+
+// Plays a block of samples into the panel that is lent, and changes it in place; the places of its LOAD rises go to the list: number,
+// place, how many rises.
+#[no_mangle]
+pub extern "C" fn zhaqsumir_block(
+    panel: &mut Panel,
+    samples: &[u8],
+    rises: &mut [u64],
+    answer: &mut [u64; 3],
+)
+    ensures { λ _. ⌜ P.BlocksNumbers (now (panel .entry) .numbers) (now (samples .entry)) (now (rises .entry)) (now (answer .exit)) (now (panel .exit) .numbers) (now (rises .exit)) ⌝ }
+{
+    *panel = panels::block(*panel, samples, rises, answer);
+}
+
+// Scans a chip of the panel that is lent as numbers, with the contacts closed: number, place, what was recorded, its code.
+#[no_mangle]
+pub extern "C" fn zhaqsumir_scan(
+    panel: &mut [u64; 202],
+    chip: usize,
+    contacts: &[u8; 8],
+    answer: &mut [u64; 4],
+)
+    ensures { λ _. ⌜ P.ScansNumbers (now (panel .entry)) chip (now (contacts .entry)) (now (answer .exit)) (now (panel .exit)) ⌝ }
+{
+    *answer = panels::scan(panel, chip, *contacts);
+}
+
+// The segments that a chip of a panel lights: number, place, eight bytes.
+#[no_mangle]
+pub extern "C" fn zhaqsumir_lit(panel: &[u64; 202], chip: usize, answer: &mut [u64; 10])
+    ensures { λ _. ⌜ now (answer .exit) ≡ P.litNumbers (now (panel .entry)) chip ⌝ }
+{
+    *answer = panels::lit(panel, chip);
+}
+
+// What the host sees of a panel: number, place, the level of the last chip's DOUT.
+#[no_mangle]
+pub extern "C" fn zhaqsumir_sees(panel: &[u64; 202], answer: &mut [u64; 3])
+    ensures { λ _. ⌜ now (answer .exit) ≡ P.seesNumbers (now (panel .entry)) ⌝ }
+{
+    *answer = panels::sees(panel);
 }

@@ -6,8 +6,8 @@ use Prim.Native.Nat.{ℕ, _-_, _≤_}
 use native.Mathlib.Numerals.{add-one}
 use native.Mathlib.Omega.{arith}
 use Rattle.base.specs.Below.{below}
-use Rattle.zhaqsumir.specs.TwoWires.{fitsAt}
-use Rattle.zhaqsumir.proofs.Panels.{too-large, fits-more}
+use Rattle.zhaqsumir.specs.TwoWires.{mosts, fitsAt}
+use Rattle.zhaqsumir.proofs.Fitting.{too-large, fits-more}
 use borrow.Author.Needs.{needs}
 use Rattle.zhaqsumir.proofs.two_wires.is_fitting.Statement.{statement}
 use Rattle.zhaqsumir.proofs.two_wires.is_fitting.Tie as tie
@@ -23,13 +23,13 @@ loop-holds c = (search needs, refl)
 
 returns : tie.Need-returns Inv-loop μ-loop
 returns c =
-    sym (too-large (c .before .before .before .before .args .numbers .now) (c .before .before .before .loop .k) (c .before .before .loop-test .taken) (c .if1 .taken))
+    sym (too-large mosts (c .before .before .before .before .args .numbers .now) 14 (c .before .before .before .loop .k) (c .before .before .loop-test .taken) (c .if1 .taken))
 
 loop-again : tie.Need-loop-again Inv-loop μ-loop
 loop-again c =
     let l = c .before .before .before .loop in
     let ns = c .before .before .before .before .args .numbers .now in
-    (search needs, ap (below (fitsAt ns)) (add-one (l .k)) ∙ fits-more ns (l .k) (c .if1 .left) (l .inv .1))
+    (search needs, ap (below (fitsAt ns)) (add-one (l .k)) ∙ fits-more mosts ns (l .k) (c .if1 .left) (l .inv .1))
 
 returns-2 : tie.Need-returns-2 Inv-loop μ-loop
 returns-2 c =

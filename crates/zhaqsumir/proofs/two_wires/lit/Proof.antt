@@ -5,7 +5,7 @@ use borrow.Author.Tests.{not-true, not-false}
 use Rattle.ch450.specs.declared.Panel.{Panel}
 use Rattle.ch450.specs.Entries.{segmentsOf}
 use Rattle.zhaqsumir.specs.TwoWires.{litBy, litFrom}
-use Rattle.zhaqsumir.proofs.Panels.{panel-held, panel-refused}
+use Rattle.zhaqsumir.proofs.Ch450Panels.{panel-held, panel-refused}
 use borrow.Author.Needs.{needs}
 use Rattle.zhaqsumir.proofs.two_wires.lit.Statement.{statement}
 use Rattle.zhaqsumir.proofs.two_wires.lit.Tie as tie

@@ -1,7 +1,7 @@
 -- `zhaqsumir::two_wires::panel_of` meets its contract: each number fits its place, so no cast cuts it.
 -- Assumes nothing.
 use mathlib.Core.Path.{refl}
-use Rattle.zhaqsumir.proofs.Panels.{under}
+use Rattle.zhaqsumir.proofs.Ch450Panels.{under}
 use borrow.Author.Needs.{needs}
 use Rattle.zhaqsumir.proofs.two_wires.panel_of.Statement.{statement}
 use Rattle.zhaqsumir.proofs.two_wires.panel_of.Tie as tie

@@ -8,7 +8,7 @@ use Rattle.ch450.specs.declared.Panel.{Panel}
 use Rattle.ch450.specs.Entries.{playedOf}
 use Rattle.zhaqsumir.specs.Numbers.{alone}
 use Rattle.zhaqsumir.specs.TwoWires.{playedBy, playOf}
-use Rattle.zhaqsumir.proofs.Panels.{panel-held, panel-refused}
+use Rattle.zhaqsumir.proofs.Ch450Panels.{panel-held, panel-refused}
 use borrow.Author.Needs.{needs}
 use Rattle.zhaqsumir.proofs.two_wires.play.Statement.{statement}
 use Rattle.zhaqsumir.proofs.two_wires.play.Tie as tie

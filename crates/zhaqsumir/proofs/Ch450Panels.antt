@@ -1,52 +1,36 @@
 -- A CH450's panel as 14 numbers, each no more than its place can hold; and the round trips of panels and numbers.
 --     under            such a number is below a bound that is above its most
---     too-large        a number above its most, and the numbers don't fit
---     fits-more        one place more
 --     panel-held       numbers that fit stand for a panel
 --     panel-refused    others are refused with 12
 --     panel-back       a panel that a run can hold, of six bytes, comes back from its numbers
 --     numbers-back     numbers that fit come back from the panel that they stand for
 -- Assumes nothing.
-use mathlib.Core.Path.{_≡_, refl, ap₂, sym, subst, _∙_}
+use mathlib.Core.Path.{_≡_, refl, _∙_}
 use mathlib.Core.Bool.{Bool, true, false, _&&_}
-use mathlib.Core.List.{List, [], _∷_}
-use Prim.Native.Nat.{ℕ, zero, suc, _^_, _≤_, _<_}
-use native.Mathlib.Nat.{lt-of-le-of-lt, lt-of-lt-of-le, le-of-suc-le-suc}
+use mathlib.Core.List.{List, _∷_}
+use Prim.Native.Nat.{ℕ, _^_, _≤_, _<_}
+use native.Mathlib.Nat.{lt-of-lt-of-le, le-of-suc-le-suc}
 use lib.Pow.{pow-mono}
 use native.Mathlib.Omega.{arith}
-use borrow.Author.Tests.{le-leb, lt-leb, leb-true}
-use lib.Dec.{T, eqb, leb, ltb, leb→le, ltb→lt, eqb→eq, lit<}
+use borrow.Author.Tests.{le-leb, leb-true}
+use lib.Dec.{T, eqb, leb, ltb, leb→le, ltb→lt, eqb→eq}
 use lib.ListN.{length, getD}
-use Rattle.base.specs.Below.{below, AllBelow}
-use Rattle.base.specs.Bits.{bitValue}
+use Rattle.base.specs.Below.{AllBelow}
 use Rattle.base.specs.Pick.{pick}
 use Rattle.base.specs.Refusals.{done, refused}
 use Rattle.base.proofs.Cuts.{bit-value-back}
 use Rattle.base.proofs.Picks.{pick-yes, pick-no}
-use Rattle.base.proofs.Tests.{at-below, and-left, and-right, eq-below}
+use Rattle.base.proofs.Tests.{and-left, and-right}
 use Rattle.ch450.specs.declared.Panel.{Panel}
 use Rattle.ch450.specs.declared.Wires.{Wires}
 use Rattle.ch450.specs.Panel.{lastBit, keptOf, validTransfer, validWires, valid}
-use Rattle.zhaqsumir.specs.TwoWires.{mosts, fitsAt, fitting, panelOf, panelIn, panelNumbers}
+use Rattle.zhaqsumir.specs.TwoWires.{mosts, fitting, panelOf, panelIn, panelNumbers}
 use Rattle.zhaqsumir.proofs.Counts.{all-places}
+use Rattle.zhaqsumir.proofs.Fitting
+use Rattle.zhaqsumir.proofs.Fitting.{number-bit, bit-most, digit-most}
 
 pub under : (ns : List ℕ) → fitting ns ≡ true → (k : ℕ) {bound : ℕ} → T (ltb k 14) → T (ltb (getD mosts k 0) bound) → getD ns k 0 < bound
-under ns h k within less =
-    lt-of-le-of-lt (leb→le (getD ns k 0) (getD mosts k 0) (at-below (fitsAt ns) 14 (subst T (sym h) tt) k (lit< within))) (lit< less)
-
--- a test that fails at one number fails
-not-below : (f : ℕ → Bool) (n k : ℕ) → k < n → f k ≡ false → below f n ≡ false
-not-below f n k h e = go (below f n) refl
-  where
-    go : (t : Bool) → below f n ≡ t → below f n ≡ false
-    go true q = absurd (subst T e (at-below f n (subst T (sym q) tt) k h))
-    go false q = q
-
-pub too-large : (ns : List ℕ) (k : ℕ) → k < 14 → getD mosts k 0 < getD ns k 0 → fitting ns ≡ false
-too-large ns k h l = not-below (fitsAt ns) 14 k h (lt-leb (getD ns k 0) (getD mosts k 0) l)
-
-pub fits-more : (ns : List ℕ) (k : ℕ) → getD ns k 0 ≤ getD mosts k 0 → below (fitsAt ns) k ≡ true → below (fitsAt ns) (suc k) ≡ true
-fits-more ns k l e = ap₂ _&&_ (le-leb (getD ns k 0) (getD mosts k 0) l) e
+under ns h k within less = Fitting.under mosts ns 14 h k within less
 
 pub panel-held : (ns : List ℕ) → fitting ns ≡ true → panelIn ns ≡ done (panelOf ns)
 unfolding panelIn
@@ -96,17 +80,6 @@ wires-small w t =
         let no-bit = eqb→eq (w .bits) 0 (and-right (eqb (w .rises) 0) (eqb (w .bits) 0) t) in
         (omega arith, omega arith)
 
--- a digit is a byte
-digit-most : (ds : List ℕ) (k : ℕ) → AllBelow 256 ds → leb (getD ds k 0) 255 ≡ true
-digit-most [] k all = refl
-digit-most (d ∷ ds) zero all = le-leb d 255 (le-of-suc-le-suc (all .0))
-digit-most (d ∷ ds) (suc k) all = digit-most ds k (all .1)
-
--- the number of a bit
-bit-most : (b : Bool) → leb (bitValue b) 1 ≡ true
-bit-most true = refl
-bit-most false = refl
-
 module _ (p : Panel) (holds : T (valid p)) (six : length (p .digits) ≡ 6) (bytes : AllBelow 256 (p .digits)) where
   numbers-fit : fitting (panelNumbers p) ≡ true
   unfolding valid
@@ -132,10 +105,6 @@ module _ (p : Panel) (holds : T (valid p)) (six : length (p .digits) ≡ 6) (byt
       }))
 
 -- ---- numbers to panels and back
-
--- a number that is 0 or 1 comes back from the bit that it is
-number-bit : (n : ℕ) → n < 2 → bitValue (eqb n 1) ≡ n
-number-bit = eq-below (λ n. bitValue (eqb n 1)) (λ n. n) 2 tt
 
 pub numbers-back : (ns : List ℕ) → length ns ≡ 14 → fitting ns ≡ true → panelNumbers (panelOf ns) ≡ ns
 numbers-back ns size fits =

@@ -1,0 +1,167 @@
+-- A chain's panel as 202 numbers, and back.
+--     numbers-back     numbers that pass the tests come back from the chain that they stand for
+--     chain-back       a chain whose first N records and levels are held comes back, in those, from its numbers; they pass the tests
+--     rest-stays       and the numbers of chips from N on stay
+-- Assumes nothing.
+use mathlib.Core.Path.{_≡_, refl, ap, ap₂, sym, subst, _∙_}
+use mathlib.Core.Bool.{Bool, true, false, _&&_}
+use mathlib.Core.List.{List, [], _∷_, _++_, append-assoc}
+use Prim.Native.Nat.{ℕ, zero, suc, _+_, _*_, _≤_, _<_}
+use native.Mathlib.Nat.{not-suc-le-zero, le-of-suc-le-suc, le-refl, lt-of-lt-of-le, le-of-lt, mod-eq-of-lt}
+use native.Mathlib.Omega.{arith}
+use borrow.Author.Tests.{lt-ltb, le-leb}
+use lib.Dec.{T, leb, leb→le}
+use lib.ListN.{length, getD, take, drop, length-append, length-drop, take-append-drop}
+use lib.Seq.{length-take-le, take-add, drop-drop, drop-at}
+use Rattle.base.specs.Below.{below}
+use Rattle.base.specs.Lent.{laid}
+use Rattle.base.specs.Pick.{pick}
+use Rattle.base.specs.Refusals.{IsDone, done, refused}
+use Rattle.base.proofs.Picks.{pick-yes}
+use Rattle.base.proofs.Tests.{is-true, and-left, and-right, at-below}
+use Rattle.chip.specs.declared.Chip.{Chip}
+use Rattle.chip.specs.Record.{resetChip}
+use Rattle.chain.specs.declared.Chain.{Chain}
+use Rattle.chain.specs.Chain.{chipCount}
+use Rattle.chain.proofs.Tested.{count-high}
+use Rattle.zhaqsumir.specs.Panels.{chipFits, byteAt, chipOf, chipNumbers, fromChip, countIn, chipFitsIn, testedIn, chipIn, chainOf, rowNumbers, panelNumbers}
+use Rattle.zhaqsumir.proofs.ChainRows.{rows-suc}
+use Rattle.zhaqsumir.proofs.ChipNumbers.{places-front, numbers-front, HeldChip, chip-length, chip-fits}
+use Rattle.zhaqsumir.proofs.ChipNumbers as Chips
+use Rattle.zhaqsumir.proofs.Counts.{atPlaces}
+
+-- the value at one of so many places
+place-at : {A : Type 0} (f : ℕ → A) (n k : ℕ) (d : A) → k < n → getD (atPlaces f n) k d ≡ f k
+place-at f zero k d h = absurd (not-suc-le-zero h)
+place-at f (suc n) zero d h = refl
+place-at f (suc n) (suc k) d h = place-at (λ j. f (suc j)) n k d (le-of-suc-le-suc h)
+
+-- where chip k's numbers start, seen from chip 0's
+from-first : (k : ℕ) (ns : List ℕ) → fromChip k ns ≡ drop (25 * k) (drop 2 ns)
+from-first k ns = sym (drop-drop (25 * k) 2 ns)
+
+-- ---- numbers to a chain and back
+
+both-passed : (a b : Bool) → IsDone {A = Unit {0}} (pick a (pick b (done tt) (refused 12 0)) (refused 3 0)) → T a × T b
+both-passed true true t = (tt, tt)
+both-passed true false t = absurd t
+both-passed false b t = absurd t
+
+module _ (ns : List ℕ) (size : length ns ≡ 202) (passed : testedIn ns ≡ done tt) where
+  tests : T (chipCount (countIn ns)) × T (leb (getD ns 1 0) 255 && below (chipFitsIn ns) (countIn ns))
+  unfolding testedIn
+  tests = both-passed (chipCount (countIn ns)) (leb (getD ns 1 0) 255 && below (chipFitsIn ns) (countIn ns)) (subst IsDone (sym passed) tt)
+
+  most-eight : countIn ns ≤ 8
+  most-eight = count-high (countIn ns) (tests .0)
+
+  -- the numbers of chip k
+  chip-front : (k : ℕ) → k < countIn ns → chipNumbers (getD (chainOf ns .chips) k resetChip) ≡ take 25 (drop (25 * k) (drop 2 ns))
+  unfolding chainOf
+  chip-front k h =
+      let few = most-eight in
+      let room : 25 ≤ length (fromChip k ns) = omega (arith, length-drop (2 + 25 * k) ns) in
+      let fits = is-true (chipFitsIn ns k) (at-below (chipFitsIn ns) (countIn ns) (and-right (leb (getD ns 1 0) 255) (below (chipFitsIn ns) (countIn ns)) (tests .1)) k h) in
+      ap chipNumbers (place-at (chipIn ns) 8 k resetChip (lt-of-lt-of-le h few) ∙ pick-yes _ _ (lt-ltb k (countIn ns) h))
+      ∙ numbers-front (fromChip k ns) room fits
+      ∙ ap (take 25) (from-first k ns)
+
+  -- of so many chips
+  row-front : (k : ℕ) → k ≤ countIn ns → rowNumbers k (chainOf ns .chips) ≡ take (25 * k) (drop 2 ns)
+  unfolding rowNumbers chainOf
+  row-front zero h = refl
+  row-front (suc k) h =
+      let few = most-eight in
+      let eight : length (chainOf ns .chips) ≡ 8 = refl in
+      let more : 25 * k + 25 ≡ 25 * suc k = omega arith in
+      rows-suc k (chainOf ns .chips) resetChip (lt-of-lt-of-le h few)
+      ∙ ap₂ _++_ (row-front k (le-of-lt h)) (chip-front k h)
+      ∙ sym (take-add (25 * k) 25 (drop 2 ns))
+      ∙ ap (λ m. take m (drop 2 ns)) more
+
+  pub numbers-back : laid (panelNumbers (countIn ns) (countIn ns) (chainOf ns)) ns ≡ ns
+  unfolding chainOf
+  numbers-back =
+      let few = most-eight in
+      let n = countIn ns in
+      let low = leb→le (getD ns 1 0) 255 (and-left (leb (getD ns 1 0) 255) (below (chipFitsIn ns) n) (tests .1)) in
+      let levels : byteAt ns 1 ≡ getD ns 1 0 = mod-eq-of-lt (omega arith) in
+      let front : panelNumbers n n (chainOf ns) ≡ take (2 + 25 * n) ns = (λ i. n ∷ levels i ∷ row-front n (le-refl n) i) ∙ ap (λ xs. xs ++ take (25 * n) (drop 2 ns)) (places-front 2 ns (omega arith)) ∙ sym (take-add 2 (25 * n) ns) in
+      ap (λ w. laid w ns) front
+      ∙ ap (λ m. take (2 + 25 * n) ns ++ drop m ns) (length-take-le (2 + 25 * n) ns (omega arith))
+      ∙ take-append-drop (2 + 25 * n) ns
+
+-- ---- a chain to numbers and back
+
+-- the first n records are held
+abbrev pub AllHeld : ℕ → List Chip → Type 0
+AllHeld zero cs = Unit {0}
+AllHeld (suc n) [] = Unit {0}
+AllHeld (suc n) (c ∷ cs) = HeldChip c × AllHeld n cs
+
+-- what holds of a held record's numbers, whatever follows them, holds of the numbers of each
+row-at : (P : List ℕ → Chip → Type 0) → ((c : Chip) → HeldChip c → (rest : List ℕ) → P (chipNumbers c ++ rest) c)
+    → (n k : ℕ) (cs : List Chip) (rest : List ℕ) → k < n → k < length cs → AllHeld n cs
+    → P (drop (25 * k) (rowNumbers n cs ++ rest)) (getD cs k resetChip)
+unfolding rowNumbers
+row-at P each zero k cs rest h l held = absurd (not-suc-le-zero h)
+row-at P each (suc n) k [] rest h l held = absurd (not-suc-le-zero l)
+row-at P each (suc n) zero (c ∷ cs) rest h l held =
+    subst (λ xs. P xs c) (sym (append-assoc (chipNumbers c) (rowNumbers n cs) rest)) (each c (held .0) (rowNumbers n cs ++ rest))
+row-at P each (suc n) (suc k) (c ∷ cs) rest h l held =
+    let tail = rowNumbers n cs ++ rest in
+    let more : 25 * suc k ≡ 25 + 25 * k = omega arith in
+    let past = ap₂ drop more (append-assoc (chipNumbers c) (rowNumbers n cs) rest) ∙ sym (drop-drop (25 * k) 25 (chipNumbers c ++ tail)) ∙ ap (drop (25 * k)) (drop-at (chipNumbers c) tail 25 (chip-length c (held .0))) in
+    subst (λ xs. P xs (getD cs k resetChip)) (sym past) (row-at P each n k cs rest (le-of-suc-le-suc h) (le-of-suc-le-suc l) (held .1))
+
+row-length : (n : ℕ) (cs : List Chip) → n ≤ length cs → AllHeld n cs → length (rowNumbers n cs) ≡ 25 * n
+unfolding rowNumbers
+row-length zero cs l held = refl
+row-length (suc n) [] l held = absurd (not-suc-le-zero l)
+row-length (suc n) (c ∷ cs) l held =
+    omega (arith, length-append (chipNumbers c) (rowNumbers n cs), chip-length c (held .0), row-length n cs (le-of-suc-le-suc l) (held .1))
+
+-- a test that passes at each number below n
+below-each : (f : ℕ → Bool) (n : ℕ) → ((k : ℕ) → k < n → f k ≡ true) → below f n ≡ true
+below-each f zero each = refl
+below-each f (suc n) each = ap₂ _&&_ (each n (le-refl (suc n))) (below-each f n (λ k h. each k (lt-of-lt-of-le h (le-of-lt (le-refl (suc n))))))
+
+-- the first n of as many values as a list has elements
+first-places : {A : Type 0} (f : ℕ → A) (n : ℕ) (xs : List A) (d : A) → ((k : ℕ) → k < n → k < length xs → f k ≡ getD xs k d) → take n (atPlaces f (length xs)) ≡ take n xs
+first-places f zero xs d each = refl
+first-places f (suc n) [] d each = refl
+first-places f (suc n) (x ∷ xs) d each =
+    ap₂ _∷_ (each 0 (omega arith) (omega arith)) (first-places (λ k. f (suc k)) n xs d (λ k h l. each (suc k) (omega arith) (omega arith)))
+
+module _ (n : ℕ) (ch : Chain) (ns : List ℕ) (count : T (chipCount n)) (size : length (ch .chips) ≡ 8) (low : ch .levels < 256) (held : AllHeld n (ch .chips)) where
+  -- the panel after the chain's numbers are put
+  after : List ℕ
+  after = laid (panelNumbers n n ch) ns
+
+  -- what holds of a held record's numbers, whatever follows them, holds of those of each chip below N
+  chip-after : (P : List ℕ → Chip → Type 0) → ((c : Chip) → HeldChip c → (rest : List ℕ) → P (chipNumbers c ++ rest) c)
+      → (k : ℕ) → k < n → P (fromChip k after) (getD (ch .chips) k resetChip)
+  unfolding after
+  chip-after P each k h =
+      let few = count-high n count in
+      let rest = drop (length (panelNumbers n n ch)) ns in
+      subst (λ xs. P xs (getD (ch .chips) k resetChip)) (sym (from-first k after)) (row-at P each n k (ch .chips) rest h (omega arith) held)
+
+  pub chain-back : (testedIn (laid (panelNumbers n n ch) ns) ≡ done tt)
+      × (take n (chainOf (laid (panelNumbers n n ch) ns) .chips) ≡ take n (ch .chips))
+      × (chainOf (laid (panelNumbers n n ch) ns) .levels ≡ ch .levels)
+  unfolding after testedIn chainOf
+  chain-back =
+      let fits : (k : ℕ) → k < n → chipFitsIn after k ≡ true = λ k h. chip-after (λ xs c. chipFits xs ≡ true) chip-fits k h in
+      let same : (k : ℕ) → k < n → chipIn after k ≡ getD (ch .chips) k resetChip = λ k h. pick-yes _ _ (lt-ltb k n h) ∙ chip-after (λ xs c. chipOf xs ≡ c) Chips.chip-back k h in (
+        pick-yes _ _ (is-true (chipCount n) count) ∙ pick-yes _ _ (ap₂ _&&_ (le-leb (ch .levels) 255 (le-of-suc-le-suc low)) (below-each (chipFitsIn after) n fits)),
+        ap (λ m. take n (atPlaces (chipIn after) m)) (sym size) ∙ first-places (chipIn after) n (ch .chips) resetChip (λ k h l. same k h),
+        mod-eq-of-lt low,
+      )
+
+  pub rest-stays : drop (2 + 25 * n) (laid (panelNumbers n n ch) ns) ≡ drop (2 + 25 * n) ns
+  rest-stays =
+      let few = count-high n count in
+      let row = row-length n (ch .chips) (omega arith) held in
+      let all : length (panelNumbers n n ch) ≡ 2 + 25 * n = omega arith in
+      drop-at (panelNumbers n n ch) (drop (length (panelNumbers n n ch)) ns) (2 + 25 * n) all ∙ ap (λ m. drop m ns) all
