@@ -2,8 +2,10 @@
 -- answer and the lent arrays included.
 -- Assumes nothing.
 use mathlib.Core.Path.{refl}
-use Rattle.base.specs.Unique.{AllowsOne}
+use denote.Ref.{now}
+use Rattle.base.specs.Unique.{AllowsOne, AllowsOneWalked}
 use Rattle.base.proofs.Unique.{same-answer}
+use Rattle.zhaqsumir.specs.Panels.{BlocksNumbers}
 use Rattle.zhaqsumir.proofs.zhaqsumir_decode
 use Rattle.zhaqsumir.proofs.zhaqsumir_encode
 use Rattle.zhaqsumir.proofs.zhaqsumir_write
@@ -15,6 +17,7 @@ use Rattle.zhaqsumir.proofs.zhaqsumir_ch450_write
 use Rattle.zhaqsumir.proofs.zhaqsumir_ch450_play
 use Rattle.zhaqsumir.proofs.zhaqsumir_ch450_lit
 use Rattle.zhaqsumir.proofs.zhaqsumir_start
+use Rattle.zhaqsumir.proofs.zhaqsumir_block
 use Rattle.zhaqsumir.proofs.zhaqsumir_scan
 use Rattle.zhaqsumir.proofs.zhaqsumir_lit
 use Rattle.zhaqsumir.proofs.zhaqsumir_sees
@@ -77,7 +80,19 @@ zhaqsumir-lit-unique κs a x y last last′ p q = (refl, λ i. (tt, (tt, (same-a
 pub zhaqsumir-sees-unique : AllowsOne zhaqsumir_sees.Kinds.ps zhaqsumir_sees.Kinds.r zhaqsumir_sees.Reads.Learnt
 zhaqsumir-sees-unique κs a x y last last′ p q = (refl, λ i. (tt, (same-answer p q i, tt)))
 
--- the panel, handed over and back by value
+-- the panel lent by `&mut`
+pub zhaqsumir-block-unique : AllowsOneWalked zhaqsumir_block.ended (λ M 𝓤 H. zhaqsumir_block.clauses 𝓤 H)
+zhaqsumir-block-unique =
+    record {
+      learnt = λ κs a x s. BlocksNumbers (now (a .0) .numbers) (now (a .1 .0)) (now (a .1 .1 .0)) (now (s .1 .1 .1 .0)) (now (s .0) .numbers) (now (s .1 .1 .0));
+      says = λ M 𝓤 H A mem run κs a g x s. refl;
+      one = λ κs a x y last last′ p q. (
+        refl,
+        λ i. (record { numbers = same-answer (p .panel) (q .panel) i }, (tt, (same-answer (p .places) (q .places) i, (same-answer (p .numbers) (q .numbers) i, tt)))),
+      );
+    }
+
+-- and the same by value, which does the work
 pub block-unique : AllowsOne block.Kinds.ps block.Kinds.r block.Reads.Learnt
 block-unique κs a x y last last′ p q = (
   λ i. record { numbers = same-answer (p .panel) (q .panel) i },
