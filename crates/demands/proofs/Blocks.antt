@@ -1,5 +1,6 @@
 -- A recording that arrives in blocks: specs/Blocks.antt.
 --     accepted              a call with samples up to 7 and a list that is long enough is accepted, and writes its rises' places
+--     below-front, below-back     samples in two parts
 --     cut-law               blocks of any lengths leave what one call over the whole leaves
 --     cut-exception         a refused block is refused alone
 -- Assumes nothing.
@@ -59,11 +60,11 @@ accepted n ch tests samples list below room r list′ b =
 
 -- ---- the cut law
 
-below-front : (m : ℕ) (xs ys : List ℕ) → AllBelow m (xs ++ ys) → AllBelow m xs
+pub below-front : (m : ℕ) (xs ys : List ℕ) → AllBelow m (xs ++ ys) → AllBelow m xs
 below-front m [] ys a = tt
 below-front m (x ∷ xs) ys a = (a .0, below-front m xs ys (a .1))
 
-below-back : (m : ℕ) (xs ys : List ℕ) → AllBelow m (xs ++ ys) → AllBelow m ys
+pub below-back : (m : ℕ) (xs ys : List ℕ) → AllBelow m (xs ++ ys) → AllBelow m ys
 below-back m [] ys a = a
 below-back m (x ∷ xs) ys a = below-back m xs ys (a .1)
 

@@ -3,6 +3,8 @@
 --     block-exact                                   chain::blocks
 --     scan-exact, apply-exact, segments-exact       chain::one
 --     find-exact                                    chain::finder
+--     sees-by-table, block-by-table,
+--     scan-by-table, segments-by-table              the same row by row, for the functions of the library
 -- Assumes nothing.
 use mathlib.Core.Path.{subst}
 use mathlib.Core.List.{List, [], _∷_, _++_, append-nil}
@@ -53,9 +55,12 @@ pub start-exact : (n : ℕ) → Exactly (startedOf n .told) (startTable n)
 unfolding startedOf
 start-exact n = by-table (told-by (chipCount n) _ _ (tested (done tt) (count-tests n) (answered tt)))
 
-pub host-sees-exact : (n : ℕ) (ch : Chain) → Exactly (seenOf n ch .told) (chainTable n ch)
+pub sees-by-table : (n : ℕ) (ch : Chain) → ByTable (seenOf n ch .told) (chainTable n ch)
 unfolding seenOf
-host-sees-exact n ch = by-table (told-after (testedOf n ch) _ _ [] (first-tests n ch) (answered tt))
+sees-by-table n ch = told-after (testedOf n ch) _ _ [] (first-tests n ch) (answered tt)
+
+pub host-sees-exact : (n : ℕ) (ch : Chain) → Exactly (seenOf n ch .told) (chainTable n ch)
+host-sees-exact n ch = by-table (sees-by-table n ch)
 
 pub play-exact : (n : ℕ) (ch : Chain) (samples : List ℕ) → Exactly (playedOf n ch samples .told) (playTable n ch samples)
 unfolding playedOf
@@ -64,20 +69,24 @@ play-exact n ch samples =
     (told-after (testedOf n ch) _ _ (each sampleRow 0 samples) (first-tests n ch)
     (told-only (checkedFrom 0 samples) _ _ _ (sample-tests 0 samples)))
 
-pub block-exact : (n : ℕ) (ch : Chain) (samples list : List ℕ) → Exactly (blockOf n ch samples list .told) (blockTable n ch samples list)
+pub block-by-table : (n : ℕ) (ch : Chain) (samples list : List ℕ) → ByTable (blockOf n ch samples list .told) (blockTable n ch samples list)
 unfolding blockOf
-block-exact n ch samples list =
+block-by-table n ch samples list =
     let room = leb (length (risesIn ch samples)) (length list) in
-    by-table
-    (told-after (testedOf n ch) _ _ (each sampleRow 0 samples ++ row 8 (ListShort ch samples list) ∷ []) (first-tests n ch)
+    told-after (testedOf n ch) _ _ (each sampleRow 0 samples ++ row 8 (ListShort ch samples list) ∷ []) (first-tests n ch)
     (told-after (checkedFrom 0 samples) _ _ (row 8 (ListShort ch samples list) ∷ []) (sample-tests 0 samples)
-    (told-by room _ _ (tested _ (leb-tests (length (risesIn ch samples)) (length list)) (answered tt)))))
+    (told-by room _ _ (tested _ (leb-tests (length (risesIn ch samples)) (length list)) (answered tt))))
+
+pub block-exact : (n : ℕ) (ch : Chain) (samples list : List ℕ) → Exactly (blockOf n ch samples list .told) (blockTable n ch samples list)
+block-exact n ch samples list = by-table (block-by-table n ch samples list)
+
+pub scan-by-table : (n : ℕ) (ch : Chain) (k : ℕ) (bytes : List ℕ) → ByTable (scannedOf n ch k bytes .told) (oneTable n ch k)
+unfolding scannedOf
+scan-by-table n ch k bytes =
+    told-after (testedOf n ch) _ _ _ (first-tests n ch) (told-by (ltb k n) _ _ (tested _ (ltb-tests k n) (answered tt)))
 
 pub scan-exact : (n : ℕ) (ch : Chain) (k : ℕ) (bytes : List ℕ) → Exactly (scannedOf n ch k bytes .told) (oneTable n ch k)
-unfolding scannedOf
-scan-exact n ch k bytes =
-    by-table
-    (told-after (testedOf n ch) _ _ _ (first-tests n ch) (told-by (ltb k n) _ _ (tested _ (ltb-tests k n) (answered tt))))
+scan-exact n ch k bytes = by-table (scan-by-table n ch k bytes)
 
 pub apply-exact : (n : ℕ) (ch : Chain) (k : ℕ) (command : Command) → Exactly (appliedOf n ch k command .told) (oneApplyTable n ch k command)
 unfolding appliedOf
@@ -87,11 +96,13 @@ apply-exact n ch k command =
     (told-by (legal command) _ _
     (tested _ (legal-tests command) (told-by (ltb k n) _ _ (tested (done tt) (ltb-tests k n) (answered tt))))))
 
-pub segments-exact : (n : ℕ) (ch : Chain) (k : ℕ) → Exactly (segmentsOf n ch k .told) (oneTable n ch k)
+pub segments-by-table : (n : ℕ) (ch : Chain) (k : ℕ) → ByTable (segmentsOf n ch k .told) (oneTable n ch k)
 unfolding segmentsOf
-segments-exact n ch k =
-    by-table
-    (told-after (testedOf n ch) _ _ _ (first-tests n ch) (told-by (ltb k n) _ _ (tested (done tt) (ltb-tests k n) (answered tt))))
+segments-by-table n ch k =
+    told-after (testedOf n ch) _ _ _ (first-tests n ch) (told-by (ltb k n) _ _ (tested (done tt) (ltb-tests k n) (answered tt)))
+
+pub segments-exact : (n : ℕ) (ch : Chain) (k : ℕ) → Exactly (segmentsOf n ch k .told) (oneTable n ch k)
+segments-exact n ch k = by-table (segments-by-table n ch k)
 
 -- ---- the finder
 

@@ -1,6 +1,7 @@
 -- Demand 1, the exact table, for the library's four functions for a CH450: each answer says by its first two numbers what the table says,
 -- specs/PanelNumbers.antt.
 --     ch450-numbers-exact                        a command that is given as numbers keeps to its table
+--     below-tests                                tests of the numbers below a number
 --     large-tests                                12: the numbers of a panel
 --     ch450-encode-says, ch450-write-says,
 --     ch450-play-says, ch450-lit-says            the four functions
@@ -88,7 +89,7 @@ ch450-numbers-exact kind a b c d = by-table (told-so (encode-ranges kind a b c d
 -- ---- a panel's numbers
 
 -- tests of the numbers below n
-below-tests : (G : ℕ → Type 0) (f : ℕ → Bool) → ((k : ℕ) → Tests (G k) (f k)) → (n : ℕ)
+pub below-tests : (G : ℕ → Type 0) (f : ℕ → Bool) → ((k : ℕ) → Tests (G k) (f k)) → (n : ℕ)
     → Tests ((k : ℕ) × (k < n) × G k) (below f n)
 below-tests G f t zero = passed (λ y. let h = y .1 in omega arith)
 below-tests G f t (suc n) = same-tests to from (both-tests (t n) (below-tests G f t n))

@@ -25,10 +25,12 @@ pub mod TextOutput
 pub mod Readings
 pub mod Named
 pub mod UnchangedTally
+pub mod UnchangedPanels
 pub mod Unchanged
 pub mod Blocks
 pub mod BlockCalls
 pub mod BlockPlaces
+pub mod PanelBlocks
 pub mod RisePlaces
 pub mod Direct
 pub mod Whole
@@ -41,6 +43,7 @@ pub mod ExactTally
 pub mod PanelTests
 pub mod ExactTwoWires
 pub mod ExactPanels
+pub mod ExactNumbers
 pub mod WiresForms
 pub mod ExactWires
 pub mod WiresUnchanged

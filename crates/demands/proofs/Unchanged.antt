@@ -19,7 +19,7 @@ use Rattle.base.specs.Pick.{pick}
 use Rattle.base.specs.Refusals.{Told, done, refused, Outcome, onceTested}
 use Rattle.word.specs.declared.Command.{Command}
 use Rattle.word.specs.Words.{decodedOf, legal}
-use Rattle.chip.specs.Record.{valid}
+use Rattle.chip.specs.Record.{valid, blank}
 use Rattle.chip.specs.Entries as One
 use Rattle.chain.specs.declared.Chain.{Chain}
 use Rattle.chain.specs.Chain.{chipCount, checkedFrom, testedOf}
@@ -33,10 +33,12 @@ use Rattle.capture.specs.declared.Report.the-variants.{Words, Screen}
 use Rattle.capture.specs.Replay.{endOf, outputOf}
 use Rattle.zhaqsumir.specs.Commands.{commandIn}
 use Rattle.zhaqsumir.specs.Numbers.{placeIn, decodeBy, alone, encodedBy, findBy}
+use Rattle.zhaqsumir.specs.Panels.{countIn, testedIn, chainOf, blockIn, scannedIn}
 use Rattle.demands.specs.Unchanged.{HandsBack, Refuses, TextRefused, CountRefused, RefusalsChangeNothing}
 use Rattle.demands.proofs.ExactText.{text-exact}
 use Rattle.demands.proofs.TextOutput.{text-output}
 use Rattle.demands.proofs.UnchangedTally.{never, is-refusal, count-refused, tally-refused}
+use Rattle.demands.proofs.UnchangedPanels.{start-kept, numbers-kept, scan-kept, scan-zeros, lit-zeros, sees-zero}
 
 -- ---- outcomes
 
@@ -162,4 +164,11 @@ refusals-change-nothing =
           let line = ap (λ xs. getD xs 1 0) same in
           text-kept Words text out out′ (getD answer 2 0) (suc m) (getD answer 1 0) (told ∙ ap (refused (suc m)) (sym line)) (ap (λ xs. getD xs 2 0) same) (w .bytes);
       libraryTally = tally-refused;
+      libraryStart = start-kept;
+      libraryBlock = λ ns samples list answer ns′ list′ b. (answer-as (b .numbers) (alone-zero (blockIn ns samples list .told)), numbers-kept ns samples list answer ns′ list′ b);
+      libraryScan = λ ns k bytes answer ns′ w. (answer-as (w .numbers) (scan-zeros (scannedIn ns k bytes .told)), scan-kept ns k bytes answer ns′ w);
+      libraryLit = λ ns k answer e.
+          answer-as e (lit-zeros _ (by-after (testedIn ns) blank _ (by-after (testedOf (countIn ns) (chainOf ns)) blank _ (by-pick (ltb k (countIn ns)) _ _ (λ m q f. never f) (λ m q f. refl)))));
+      librarySees = λ ns answer e.
+          answer-as e (sees-zero _ (by-after (testedIn ns) false _ (by-after (testedOf (countIn ns) (chainOf ns)) false _ (λ m q f. never f))));
     }

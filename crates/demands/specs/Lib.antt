@@ -11,10 +11,12 @@ pub mod Tallies
 pub mod Unchanged
 pub mod TwoWires
 pub mod PanelNumbers
+pub mod ChainNumbers
 pub mod WiresTexts
 pub mod WiresUnchanged
 pub mod Direct
 pub mod Whole
 pub mod Blocks
+pub mod PanelBlocks
 pub mod Asleep
 pub mod Alone

@@ -41,6 +41,7 @@ use Rattle.tallies.specs.declared.Tally.{Tally}
 use Rattle.tallies.specs.declared.Counted.{Counted}
 use Rattle.tallies.specs.Counted.{countedAll, countedOf, handedTally}
 use Rattle.zhaqsumir.specs.Numbers.{decodeNumbers, encodeNumbers, findNumbers, WritesNumbers, ReplaysNumbers, chipNumbers, tallyIn, TalliesNumbers}
+use Rattle.zhaqsumir.specs.Panels.{StartsNumbers, BlocksNumbers, ScansNumbers, litNumbers, seesNumbers}
 use Rattle.demands.specs.Texts.{wroteBefore}
 
 -- where a refusal is told, the value is the one given (zeros, where none was given)
@@ -118,3 +119,11 @@ pub record RefusalsChangeNothing : Type 0 where
       → TextRefused Words text out out′ (suc number) (getD answer 1 0) (getD answer 2 0)
   pub libraryTally : (text cs ts : List ℕ) (n : ℕ) (answer cs′ ts′ : List ℕ) (n′ : ℕ) → TalliesNumbers text cs ts n answer cs′ ts′ n′ → (number : ℕ)
       → getD answer 0 0 ≡ suc number → TallyRefused text cs ts n (getD answer 1 0) cs′ ts′ n′
+  -- a panel lent as numbers (C-11): its 202 numbers are those lent, and so is the list of a block
+  pub libraryStart : (n : ℕ) (ns answer ns′ : List ℕ) → StartsNumbers n ns answer ns′ → (number : ℕ) → getD answer 0 0 ≡ suc number → ns′ ≡ ns
+  pub libraryBlock : (ns samples list answer ns′ list′ : List ℕ) → BlocksNumbers ns samples list answer ns′ list′
+      → Refuses answer (0 ∷ []) × ((number : ℕ) → getD answer 0 0 ≡ suc number → (ns′ ≡ ns) × (list′ ≡ list))
+  pub libraryScan : (ns : List ℕ) (k : ℕ) (bytes answer ns′ : List ℕ) → ScansNumbers ns k bytes answer ns′
+      → Refuses answer (0 ∷ 0 ∷ []) × ((number : ℕ) → getD answer 0 0 ≡ suc number → ns′ ≡ ns)
+  pub libraryLit : (ns : List ℕ) (k : ℕ) (answer : List ℕ) → answer ≡ litNumbers ns k → Refuses answer (0 ∷ 0 ∷ 0 ∷ 0 ∷ 0 ∷ 0 ∷ 0 ∷ 0 ∷ [])
+  pub librarySees : (ns answer : List ℕ) → answer ≡ seesNumbers ns → Refuses answer (0 ∷ [])

@@ -1,7 +1,9 @@
 -- A chain's panel as 202 numbers, and back.
 --     numbers-back     numbers that pass the tests come back from the chain that they stand for
---     chain-back       a chain whose first N records and levels are held comes back, in those, from its numbers; they pass the tests
---     rest-stays       and the numbers of chips from N on stay
+--     no-samples       so a block of no samples changes no number
+--     chain-back       the numbers of a chain whose records and levels are held pass the tests and stand for it
+--     rows-length      the numbers of such records are 25 each
+--     rest-stays       and those of the chips past them stay
 -- Assumes nothing.
 use mathlib.Core.Path.{_≡_, refl, ap, ap₂, sym, subst, _∙_}
 use mathlib.Core.Bool.{Bool, true, false, _&&_}
@@ -16,18 +18,18 @@ use lib.Seq.{length-take-le, take-add, drop-drop, drop-at}
 use Rattle.base.specs.Below.{below}
 use Rattle.base.specs.Lent.{laid}
 use Rattle.base.specs.Pick.{pick}
-use Rattle.base.specs.Refusals.{IsDone, done, refused}
-use Rattle.base.proofs.Picks.{pick-yes}
+use Rattle.base.specs.Refusals.{Told, IsDone, done, refused, Outcome, onceTested}
+use Rattle.base.proofs.Picks.{pick-yes, pick-cases}
 use Rattle.base.proofs.Tests.{is-true, and-left, and-right, at-below}
 use Rattle.chip.specs.declared.Chip.{Chip}
 use Rattle.chip.specs.Record.{resetChip}
 use Rattle.chain.specs.declared.Chain.{Chain}
-use Rattle.chain.specs.Chain.{chipCount}
+use Rattle.chain.specs.Blocks.{risesIn, blockOf}
+use Rattle.chain.specs.Chain.{chipCount, checkedFrom, testedOf, played}
 use Rattle.chain.proofs.Tested.{count-high}
-use Rattle.zhaqsumir.specs.Panels.{chipFits, byteAt, chipOf, chipNumbers, fromChip, countIn, chipFitsIn, testedIn, chipIn, chainOf, rowNumbers, panelNumbers}
+use Rattle.zhaqsumir.specs.Panels.{chipFits, byteAt, chipOf, chipNumbers, fromChip, countIn, chipFitsIn, testedIn, chipIn, chainOf, rowNumbers, panelNumbers, panelBy, blockIn, BlocksNumbers}
 use Rattle.zhaqsumir.proofs.ChainRows.{rows-suc}
-use Rattle.zhaqsumir.proofs.ChipNumbers.{places-front, numbers-front, HeldChip, chip-length, chip-fits}
-use Rattle.zhaqsumir.proofs.ChipNumbers as Chips
+use Rattle.zhaqsumir.proofs.ChipNumbers.{places-front, numbers-front, HeldChip, chip-length, chip-fits, chip-back}
 use Rattle.zhaqsumir.proofs.Counts.{atPlaces}
 
 -- the value at one of so many places
@@ -91,6 +93,32 @@ module _ (ns : List ℕ) (size : length ns ≡ 202) (passed : testedIn ns ≡ do
       ∙ ap (λ m. take (2 + 25 * n) ns ++ drop m ns) (length-take-le (2 + 25 * n) ns (omega arith))
       ∙ take-append-drop (2 + 25 * n) ns
 
+-- the state after a test, where it is the state before it either way
+state-once : {A : Type 0} (t : Told (Unit {0})) (ch : Chain) (o : Outcome Chain A) → o .state ≡ ch → onceTested t ch o .state ≡ ch
+state-once (done u) ch o e = e
+state-once (refused number place) ch o e = refl
+
+-- a block of no samples leaves the chain
+none-played : (n : ℕ) (ch : Chain) (list : List ℕ) → blockOf n ch [] list .state ≡ ch
+unfolding blockOf checkedFrom played
+none-played n ch list =
+    state-once (testedOf n ch) ch _ (pick-cases (λ (o : Outcome Chain ℕ). o .state ≡ ch) (leb (length (risesIn ch [])) (length list)) (λ e. refl) (λ e. refl))
+
+panel-same : (t : Told ℕ) (first ns : List ℕ) → laid first ns ≡ ns → panelBy t first ns ≡ ns
+panel-same (done count) first ns e = e
+panel-same (refused number place) first ns e = refl
+
+pub no-samples : (ns list : List ℕ) {answer ns′ list′ : List ℕ} → length ns ≡ 202 → BlocksNumbers ns [] list answer ns′ list′ → ns′ ≡ ns
+no-samples ns list size b = b .panel ∙ go (testedIn ns) refl
+  where
+    go : (t : Told (Unit {0})) → testedIn ns ≡ t
+        → panelBy (blockIn ns [] list .told) (panelNumbers (countIn ns) (countIn ns) (blockIn ns [] list .state)) ns ≡ ns
+    go (done u) e =
+        let state = state-once (testedIn ns) (chainOf ns) (blockOf (countIn ns) (chainOf ns) [] list) (none-played (countIn ns) (chainOf ns) list) in
+        panel-same (blockIn ns [] list .told) _ ns (ap (λ ch. laid (panelNumbers (countIn ns) (countIn ns) ch) ns) state ∙ numbers-back ns size e)
+    go (refused number place) e =
+        ap (λ t. panelBy (onceTested t (chainOf ns) (blockOf (countIn ns) (chainOf ns) [] list) .told) (panelNumbers (countIn ns) (countIn ns) (blockIn ns [] list .state)) ns) e
+
 -- ---- a chain to numbers and back
 
 -- the first n records are held
@@ -114,12 +142,12 @@ row-at P each (suc n) (suc k) (c ∷ cs) rest h l held =
     let past = ap₂ drop more (append-assoc (chipNumbers c) (rowNumbers n cs) rest) ∙ sym (drop-drop (25 * k) 25 (chipNumbers c ++ tail)) ∙ ap (drop (25 * k)) (drop-at (chipNumbers c) tail 25 (chip-length c (held .0))) in
     subst (λ xs. P xs (getD cs k resetChip)) (sym past) (row-at P each n k cs rest (le-of-suc-le-suc h) (le-of-suc-le-suc l) (held .1))
 
-row-length : (n : ℕ) (cs : List Chip) → n ≤ length cs → AllHeld n cs → length (rowNumbers n cs) ≡ 25 * n
+pub rows-length : (n : ℕ) (cs : List Chip) → n ≤ length cs → AllHeld n cs → length (rowNumbers n cs) ≡ 25 * n
 unfolding rowNumbers
-row-length zero cs l held = refl
-row-length (suc n) [] l held = absurd (not-suc-le-zero l)
-row-length (suc n) (c ∷ cs) l held =
-    omega (arith, length-append (chipNumbers c) (rowNumbers n cs), chip-length c (held .0), row-length n cs (le-of-suc-le-suc l) (held .1))
+rows-length zero cs l held = refl
+rows-length (suc n) [] l held = absurd (not-suc-le-zero l)
+rows-length (suc n) (c ∷ cs) l held =
+    omega (arith, length-append (chipNumbers c) (rowNumbers n cs), chip-length c (held .0), rows-length n cs (le-of-suc-le-suc l) (held .1))
 
 -- a test that passes at each number below n
 below-each : (f : ℕ → Bool) (n : ℕ) → ((k : ℕ) → k < n → f k ≡ true) → below f n ≡ true
@@ -133,35 +161,42 @@ first-places f (suc n) [] d each = refl
 first-places f (suc n) (x ∷ xs) d each =
     ap₂ _∷_ (each 0 (omega arith) (omega arith)) (first-places (λ k. f (suc k)) n xs d (λ k h l. each (suc k) (omega arith) (omega arith)))
 
-module _ (n : ℕ) (ch : Chain) (ns : List ℕ) (count : T (chipCount n)) (size : length (ch .chips) ≡ 8) (low : ch .levels < 256) (held : AllHeld n (ch .chips)) where
-  -- the panel after the chain's numbers are put
+-- numbers that pass the tests and stand for a chain, in its first n records and its levels
+pub record Stands (n : ℕ) (ch : Chain) (ns : List ℕ) : Type 0 where
+  pub count : countIn ns ≡ n
+  pub passed : testedIn ns ≡ done tt
+  pub chips : take n (chainOf ns .chips) ≡ take n (ch .chips)
+  pub levels : chainOf ns .levels ≡ ch .levels
+
+module _ (n many : ℕ) (ch : Chain) (ns : List ℕ) (counts : T (chipCount n)) (within : n ≤ many) (size : length (ch .chips) ≡ 8) (low : ch .levels < 256)
+    (held : AllHeld many (ch .chips)) where
+  -- the panel after the numbers of so many records are put
   after : List ℕ
-  after = laid (panelNumbers n n ch) ns
+  after = laid (panelNumbers n many ch) ns
 
   -- what holds of a held record's numbers, whatever follows them, holds of those of each chip below N
   chip-after : (P : List ℕ → Chip → Type 0) → ((c : Chip) → HeldChip c → (rest : List ℕ) → P (chipNumbers c ++ rest) c)
       → (k : ℕ) → k < n → P (fromChip k after) (getD (ch .chips) k resetChip)
   unfolding after
   chip-after P each k h =
-      let few = count-high n count in
-      let rest = drop (length (panelNumbers n n ch)) ns in
-      subst (λ xs. P xs (getD (ch .chips) k resetChip)) (sym (from-first k after)) (row-at P each n k (ch .chips) rest h (omega arith) held)
+      let few = count-high n counts in
+      let rest = drop (length (panelNumbers n many ch)) ns in
+      subst (λ xs. P xs (getD (ch .chips) k resetChip)) (sym (from-first k after)) (row-at P each many k (ch .chips) rest (omega arith) (omega arith) held)
 
-  pub chain-back : (testedIn (laid (panelNumbers n n ch) ns) ≡ done tt)
-      × (take n (chainOf (laid (panelNumbers n n ch) ns) .chips) ≡ take n (ch .chips))
-      × (chainOf (laid (panelNumbers n n ch) ns) .levels ≡ ch .levels)
+  pub chain-back : Stands n ch (laid (panelNumbers n many ch) ns)
   unfolding after testedIn chainOf
   chain-back =
       let fits : (k : ℕ) → k < n → chipFitsIn after k ≡ true = λ k h. chip-after (λ xs c. chipFits xs ≡ true) chip-fits k h in
-      let same : (k : ℕ) → k < n → chipIn after k ≡ getD (ch .chips) k resetChip = λ k h. pick-yes _ _ (lt-ltb k n h) ∙ chip-after (λ xs c. chipOf xs ≡ c) Chips.chip-back k h in (
-        pick-yes _ _ (is-true (chipCount n) count) ∙ pick-yes _ _ (ap₂ _&&_ (le-leb (ch .levels) 255 (le-of-suc-le-suc low)) (below-each (chipFitsIn after) n fits)),
-        ap (λ m. take n (atPlaces (chipIn after) m)) (sym size) ∙ first-places (chipIn after) n (ch .chips) resetChip (λ k h l. same k h),
-        mod-eq-of-lt low,
-      )
+      let same : (k : ℕ) → k < n → chipIn after k ≡ getD (ch .chips) k resetChip = λ k h. pick-yes _ _ (lt-ltb k n h) ∙ chip-after (λ xs c. chipOf xs ≡ c) chip-back k h in
+      record {
+        count = refl;
+        passed = pick-yes _ _ (is-true (chipCount n) counts) ∙ pick-yes _ _ (ap₂ _&&_ (le-leb (ch .levels) 255 (le-of-suc-le-suc low)) (below-each (chipFitsIn after) n fits));
+        chips = ap (λ m. take n (atPlaces (chipIn after) m)) (sym size) ∙ first-places (chipIn after) n (ch .chips) resetChip (λ k h l. same k h);
+        levels = mod-eq-of-lt low;
+      }
 
-  pub rest-stays : drop (2 + 25 * n) (laid (panelNumbers n n ch) ns) ≡ drop (2 + 25 * n) ns
-  rest-stays =
-      let few = count-high n count in
-      let row = row-length n (ch .chips) (omega arith) held in
-      let all : length (panelNumbers n n ch) ≡ 2 + 25 * n = omega arith in
-      drop-at (panelNumbers n n ch) (drop (length (panelNumbers n n ch)) ns) (2 + 25 * n) all ∙ ap (λ m. drop m ns) all
+  pub rest-stays : many ≤ 8 → drop (2 + 25 * many) (laid (panelNumbers n many ch) ns) ≡ drop (2 + 25 * many) ns
+  rest-stays few =
+      let row = rows-length many (ch .chips) (omega arith) held in
+      let all : length (panelNumbers n many ch) ≡ 2 + 25 * many = omega arith in
+      drop-at (panelNumbers n many ch) (drop (length (panelNumbers n many ch)) ns) (2 + 25 * many) all ∙ ap (λ m. drop m ns) all

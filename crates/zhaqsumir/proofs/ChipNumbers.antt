@@ -45,17 +45,20 @@ numbers-front xs h fits =
 -- ---- a record to numbers and back
 
 -- what the fields of a record hold
-pub record HeldChip (c : Chip) : Type 0 where
-  pub register : c .line .register < 65536
-  pub code : c .line .readout .code < 256
-  pub left : c .line .readout .left < 256
-  pub limit : c .settings .display .limit < 256
-  pub blink : c .settings .blink < 256
-  pub custom : c .settings .custom < 256
-  pub eight : length (c .digits) ≡ 8
-  pub digits : AllBelow 256 (c .digits)
-  pub key : c .keys .code < 256
-  pub last : c .keys .last < 256
+abbrev pub HeldChip : Chip → Type 0
+HeldChip c =
+    record {
+      register : c .line .register < 65536;
+      code : c .line .readout .code < 256;
+      left : c .line .readout .left < 256;
+      limit : c .settings .display .limit < 256;
+      blink : c .settings .blink < 256;
+      custom : c .settings .custom < 256;
+      eight : length (c .digits) ≡ 8;
+      digits : AllBelow 256 (c .digits);
+      key : c .keys .code < 256;
+      last : c .keys .last < 256;
+    }
 
 -- what holds of a record whose eight digits are written out holds of it
 by-digits : (P : Chip → Type 0) (c : Chip) → length (c .digits) ≡ 8 → P (withDigits (atPlaces (λ k. getD (c .digits) k 0) 8) c) → P c

@@ -41,17 +41,19 @@ chipFitsAt ns j = leb (getD ns j 0) (getD chipMosts j 0)
 unfoldable pub chipFits : List ℕ → Bool
 chipFits ns = below (chipFitsAt ns) 25
 
--- the byte and the bit at a place; of numbers that fit nothing is cut
+-- the byte at a place; of a number that fits nothing is cut
 abbrev pub byteAt : List ℕ → ℕ → ℕ
 byteAt ns j = getD ns j 0 % 256
 
+-- the bit at a place: 1 or not
 abbrev pub bitAt : List ℕ → ℕ → Bool
 bitAt ns j = eqb (getD ns j 0) 1
 
--- the record that the numbers at the front of a list stand for, by parts
+-- the record that the numbers at the front of a list stand for, by parts. LineParts: numbers 0 to 3
 abbrev pub lineOf : List ℕ → LineParts
 lineOf ns = record { register = getD ns 0 0 % 65536; latch = bitAt ns 1; readout = record { code = byteAt ns 2; left = byteAt ns 3 } }
 
+-- settings: numbers 4 to 13
 abbrev pub settingsOf : List ℕ → Settings
 settingsOf ns =
     record {
@@ -62,13 +64,16 @@ settingsOf ns =
       sleeping = bitAt ns 13;
     }
 
+-- digits: numbers 14 to 21
 abbrev pub digitsOf : List ℕ → List ℕ
 digitsOf ns =
     byteAt ns 14 ∷ byteAt ns 15 ∷ byteAt ns 16 ∷ byteAt ns 17 ∷ byteAt ns 18 ∷ byteAt ns 19 ∷ byteAt ns 20 ∷ byteAt ns 21 ∷ []
 
+-- key record: numbers 22 to 24
 abbrev pub keysOf : List ℕ → Keys
 keysOf ns = record { code = byteAt ns 22; interrupt = bitAt ns 23; last = byteAt ns 24 }
 
+-- all four
 unfoldable pub chipOf : List ℕ → Chip
 chipOf ns = record { line = lineOf ns; settings = settingsOf ns; digits = digitsOf ns; keys = keysOf ns }
 
@@ -175,6 +180,7 @@ codeIn (keyCode code) = code
 codeIn (overUnread code) = code
 codeIn releaseNoted = 0
 
+-- which of those, and its code; zeros where refused
 abbrev pub scanBy : Told Recording → List ℕ
 scanBy (done what) = 0 ∷ 0 ∷ whatOf what ∷ codeIn what ∷ []
 scanBy (refused number place) = number ∷ place ∷ 0 ∷ 0 ∷ []
