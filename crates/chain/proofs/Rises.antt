@@ -1,21 +1,22 @@
 -- The places of a block's LOAD rises, `risesFrom`.
 --     rises-more, rises-over     a sample more, and no sample left
 --     stretch-rises              of a stretch: its last sample's place, then the rises after it; none where LOAD didn't rise
---     rises-within               there are no more rises than samples
+--     rises-half                 twice as many rises as there are come to no more than the samples, and one more where LOAD is low before them
 --     rises-append               of samples in two parts
 --     rises-moved                places counted from further on
 -- Assumes nothing.
 use mathlib.Core.Path.{_≡_, refl, ap, sym, _∙_}
-use mathlib.Core.Bool.{Bool, true, false}
+use mathlib.Core.Bool.{Bool, true, false, not, _&&_}
 use mathlib.Core.List.{List, [], _∷_, _++_, map}
-use Prim.Native.Nat.{ℕ, suc, _+_, _-_, _≤_, _<_}
+use Prim.Native.Nat.{ℕ, suc, _+_, _*_, _-_, _≤_, _<_}
 use native.Mathlib.Numerals.{add-one}
 use native.Mathlib.Omega.{arith}
 use lib.ListN.{length, getD, drop, drop-of-length-le}
+use Rattle.base.specs.Bits.{bitValue}
 use Rattle.base.specs.Pick.{pick}
 use Rattle.base.proofs.Lists.{rest-is}
 use Rattle.base.proofs.Picks.{pick-yes, pick-no, pick-ap}
-use Rattle.chip.specs.Edges.{loadRises}
+use Rattle.chip.specs.Edges.{load, loadRises}
 use Rattle.chain.specs.declared.Chain.{Chain}
 use Rattle.chain.specs.declared.play.Stretch.{Stretch}
 use Rattle.chain.specs.Blocks.{risesFrom}
@@ -54,14 +55,17 @@ module _ (ss : List ℕ) where
 
 -- ---- any samples
 
-pub rises-within : (place was : ℕ) (ss : List ℕ) → length (risesFrom place was ss) ≤ length ss
+pub rises-half : (place was : ℕ) (ss : List ℕ) → 2 * length (risesFrom place was ss) ≤ length ss + bitValue (not (load was))
 unfolding risesFrom
-rises-within place was [] = omega arith
-rises-within place was (s ∷ ss) = go (loadRises was s) (risesFrom (suc place) s ss) (rises-within (suc place) s ss)
+rises-half place was [] = omega arith
+rises-half place was (s ∷ ss) = go (load was) (load s) (risesFrom (suc place) s ss) (rises-half (suc place) s ss)
   where
-    go : (b : Bool) (rest : List ℕ) → length rest ≤ length ss → length (pick b (place ∷ rest) rest) ≤ suc (length ss)
-    go true rest h = omega arith
-    go false rest h = omega arith
+    go : (a b : Bool) (rest : List ℕ) → 2 * length rest ≤ length ss + bitValue (not b)
+        → 2 * length (pick (not a && b) (place ∷ rest) rest) ≤ suc (length ss) + bitValue (not a)
+    go true true rest h = omega arith
+    go true false rest h = omega arith
+    go false true rest h = omega arith
+    go false false rest h = omega arith
 
 pub rises-append : (place was : ℕ) (xs ys : List ℕ)
     → risesFrom place was (xs ++ ys) ≡ risesFrom place was xs ++ risesFrom (place + length xs) (lastOf was xs) ys

@@ -153,9 +153,10 @@ pub(crate) fn chip_of(numbers: &[u64]) -> Chip
 pub(crate) fn is_fitting(numbers: &[u64]) -> bool
     ensures { λ r. ⌜ r ≡ P.chipFits (now (numbers .entry)) ⌝ }
 {
+    let mosts = MOSTS;
     let mut j = 0;
     while j < CHIP {
-        if at(numbers, j) > MOSTS[j] {
+        if at(numbers, j) > mosts[j] {
             return false;
         }
         j += 1;

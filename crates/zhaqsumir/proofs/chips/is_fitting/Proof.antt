@@ -14,10 +14,10 @@ use Rattle.zhaqsumir.proofs.chips.is_fitting.Statement.{statement}
 use Rattle.zhaqsumir.proofs.chips.is_fitting.Tie as tie
 
 abbrev Inv-loop : tie.InvT-loop
-Inv-loop numbers j₀ j = (j ≤ 25) × (below (chipFitsAt numbers) j ≡ true)
+Inv-loop numbers mosts j₀ j = (j ≤ 25) × (below (chipFitsAt numbers) j ≡ true)
 
 abbrev μ-loop : tie.MeasureT-loop
-μ-loop numbers j₀ j = 25 - j
+μ-loop numbers mosts j₀ j = 25 - j
 
 loop-holds : tie.Need-loop-holds Inv-loop μ-loop
 loop-holds c = (search needs, refl)
