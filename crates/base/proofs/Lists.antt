@@ -27,3 +27,9 @@ rest-is xs i d h = drop-cons xs i d h ∙ ap (λ n. getD xs i d ∷ drop n xs) (
 pub below-append : (m : ℕ) (xs ys : List ℕ) → AllBelow m xs → AllBelow m ys → AllBelow m (xs ++ ys)
 below-append m [] ys a b = b
 below-append m (x ∷ xs) ys a b = (a .0, below-append m xs ys (a .1) b)
+
+-- a number of such a list, or 0 past its end
+pub below-at : (m : ℕ) (xs : List ℕ) (k : ℕ) → 0 < m → AllBelow m xs → getD xs k 0 < m
+below-at m [] k h all = h
+below-at m (x ∷ xs) zero h all = all .0
+below-at m (x ∷ xs) (suc k) h all = below-at m xs k h (all .1)

@@ -11,3 +11,4 @@ pub mod Histories
 pub mod Unique
 pub mod Passed
 pub mod Still
+pub mod Held

@@ -13,3 +13,4 @@ pub mod Again
 pub mod Cases
 pub mod Bars
 pub mod Unique
+pub mod Held

@@ -26,10 +26,12 @@ use Rattle.chip.specs.Record.{resetChip}
 use Rattle.chain.specs.declared.Chain.{Chain}
 use Rattle.chain.specs.Blocks.{risesIn, blockOf}
 use Rattle.chain.specs.Chain.{chipCount, checkedFrom, testedOf, played}
+use Rattle.chip.proofs.Held.{HeldChip}
+use Rattle.chain.proofs.Held.{AllHeld}
 use Rattle.chain.proofs.Tested.{count-high}
 use Rattle.zhaqsumir.specs.Panels.{chipFits, byteAt, chipOf, chipNumbers, fromChip, countIn, chipFitsIn, testedIn, chipIn, chainOf, rowNumbers, panelNumbers, panelBy, blockIn, BlocksNumbers}
 use Rattle.zhaqsumir.proofs.ChainRows.{rows-suc}
-use Rattle.zhaqsumir.proofs.ChipNumbers.{places-front, numbers-front, HeldChip, chip-length, chip-fits, chip-back}
+use Rattle.zhaqsumir.proofs.ChipNumbers.{places-front, numbers-front, chip-length, chip-fits, chip-back}
 use Rattle.zhaqsumir.proofs.Counts.{atPlaces}
 
 -- the value at one of so many places
@@ -120,12 +122,6 @@ no-samples ns list size b = b .panel ∙ go (testedIn ns) refl
         ap (λ t. panelBy (onceTested t (chainOf ns) (blockOf (countIn ns) (chainOf ns) [] list) .told) (panelNumbers (countIn ns) (countIn ns) (blockIn ns [] list .state)) ns) e
 
 -- ---- a chain to numbers and back
-
--- the first n records are held
-abbrev pub AllHeld : ℕ → List Chip → Type 0
-AllHeld zero cs = Unit {0}
-AllHeld (suc n) [] = Unit {0}
-AllHeld (suc n) (c ∷ cs) = HeldChip c × AllHeld n cs
 
 -- what holds of a held record's numbers, whatever follows them, holds of the numbers of each
 row-at : (P : List ℕ → Chip → Type 0) → ((c : Chip) → HeldChip c → (rest : List ℕ) → P (chipNumbers c ++ rest) c)

@@ -4,23 +4,27 @@
 --     chip-length      a record has 25 numbers
 --     chip-fits        which fit, whatever follows them
 --     chip-back        and the record comes back from them
+--     numbers-held     what any numbers stand for is held
 -- Assumes nothing.
 use mathlib.Core.Path.{_≡_, refl, ap, subst, _∙_}
 use mathlib.Core.Bool.{true, _&&_}
 use mathlib.Core.List.{List, [], _∷_, _++_}
 use Prim.Native.Nat.{ℕ, zero, suc, _≤_, _<_}
-use native.Mathlib.Nat.{not-suc-le-zero, le-of-suc-le-suc, mod-eq-of-lt}
+use native.Mathlib.Nat.{not-suc-le-zero, le-of-suc-le-suc, mod-lt, mod-eq-of-lt}
+use native.Mathlib.Omega.{arith}
 use borrow.Author.Tests.{le-leb}
 use lib.Dec.{T, leb, ltb}
 use lib.ListN.{length, getD, take}
 use Rattle.base.specs.Below.{AllBelow}
 use Rattle.base.specs.Bits.{bitValue}
 use Rattle.base.proofs.Cuts.{bit-value-back}
+use Rattle.base.proofs.Lists.{below-at}
 use Rattle.chip.specs.declared.Chip.{Chip}
 use Rattle.chip.specs.Record.{withDigits}
+use Rattle.chip.proofs.Held.{HeldChip}
 use Rattle.zhaqsumir.specs.Panels.{chipMosts, chipFits, byteAt, bitAt, chipOf, chipNumbers}
 use Rattle.zhaqsumir.proofs.Counts.{atPlaces, all-places}
-use Rattle.zhaqsumir.proofs.Fitting.{under, number-bit, bit-most, digit-lt, digit-most}
+use Rattle.zhaqsumir.proofs.Fitting.{under, number-bit, bit-most, digit-most}
 
 -- ---- numbers to a record and back
 
@@ -43,22 +47,6 @@ numbers-front xs h fits =
     ∙ places-front 25 xs h
 
 -- ---- a record to numbers and back
-
--- what the fields of a record hold
-abbrev pub HeldChip : Chip → Type 0
-HeldChip c =
-    record {
-      register : c .line .register < 65536;
-      code : c .line .readout .code < 256;
-      left : c .line .readout .left < 256;
-      limit : c .settings .display .limit < 256;
-      blink : c .settings .blink < 256;
-      custom : c .settings .custom < 256;
-      eight : length (c .digits) ≡ 8;
-      digits : AllBelow 256 (c .digits);
-      key : c .keys .code < 256;
-      last : c .keys .last < 256;
-    }
 
 -- what holds of a record whose eight digits are written out holds of it
 by-digits : (P : Chip → Type 0) (c : Chip) → length (c .digits) ≡ 8 → P (withDigits (atPlaces (λ k. getD (c .digits) k 0) 8) c) → P c
@@ -89,7 +77,7 @@ module _ (c : Chip) (h : HeldChip c) where
   pub chip-back : (rest : List ℕ) → chipOf (chipNumbers c ++ rest) ≡ c
   unfolding chipOf chipNumbers
   chip-back rest =
-      let digit : (k : ℕ) → getD (c .digits) k 0 < 256 = λ k. digit-lt (c .digits) k (h .digits) in
+      let digit : (k : ℕ) → getD (c .digits) k 0 < 256 = λ k. below-at 256 (c .digits) k (omega arith) (h .digits) in
       by-digits (λ x. chipOf (chipNumbers x ++ rest) ≡ x) c (h .eight) (λ i.
       record {
         line = record {
@@ -114,3 +102,22 @@ module _ (c : Chip) (h : HeldChip c) where
             ∷ mod-eq-of-lt (digit 4) i ∷ mod-eq-of-lt (digit 5) i ∷ mod-eq-of-lt (digit 6) i ∷ mod-eq-of-lt (digit 7) i ∷ [];
         keys = record { code = mod-eq-of-lt (h .key) i; interrupt = bit-value-back (c .keys .interrupt) i; last = mod-eq-of-lt (h .last) i };
       })
+
+-- ---- any numbers
+
+pub numbers-held : (ns : List ℕ) → HeldChip (chipOf ns)
+unfolding chipOf
+numbers-held ns =
+    let byte : (j : ℕ) → byteAt ns j < 256 = λ j. mod-lt (getD ns j 0) (omega arith) in
+    record {
+      register = mod-lt (getD ns 0 0) (omega arith);
+      code = byte 2;
+      left = byte 3;
+      limit = byte 10;
+      blink = byte 11;
+      custom = byte 12;
+      eight = refl;
+      digits = (byte 14, (byte 15, (byte 16, (byte 17, (byte 18, (byte 19, (byte 20, (byte 21, tt))))))));
+      key = byte 22;
+      last = byte 24;
+    }

@@ -4,7 +4,7 @@
 --     fits-more        one place more
 --     number-bit       a number that is 0 or 1 comes back from the bit that it is
 --     bit-most         the number of a bit is no more than 1
---     digit-lt         a digit is below 256, where each is; digit-most: so no more than 255
+--     digit-most       a digit is no more than 255, where each is below 256
 -- Assumes nothing.
 use mathlib.Core.Path.{_≡_, refl, ap₂, sym, subst}
 use mathlib.Core.Bool.{Bool, true, false, _&&_}
@@ -17,6 +17,7 @@ use lib.Dec.{T, eqb, leb, ltb, leb→le, lit<}
 use lib.ListN.{getD}
 use Rattle.base.specs.Below.{below, AllBelow}
 use Rattle.base.specs.Bits.{bitValue}
+use Rattle.base.proofs.Lists.{below-at}
 use Rattle.base.proofs.Tests.{at-below, eq-below}
 
 -- a test that fails at one number fails
@@ -51,10 +52,5 @@ pub bit-most : (b : Bool) → leb (bitValue b) 1 ≡ true
 bit-most true = refl
 bit-most false = refl
 
-pub digit-lt : (ds : List ℕ) (k : ℕ) → AllBelow 256 ds → getD ds k 0 < 256
-digit-lt [] k all = omega arith
-digit-lt (d ∷ ds) zero all = all .0
-digit-lt (d ∷ ds) (suc k) all = digit-lt ds k (all .1)
-
 pub digit-most : (ds : List ℕ) (k : ℕ) → AllBelow 256 ds → leb (getD ds k 0) 255 ≡ true
-digit-most ds k all = le-leb (getD ds k 0) 255 (le-of-suc-le-suc (digit-lt ds k all))
+digit-most ds k all = le-leb (getD ds k 0) 255 (le-of-suc-le-suc (below-at 256 ds k (omega arith) all))

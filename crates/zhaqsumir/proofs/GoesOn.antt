@@ -1,6 +1,5 @@
 -- A panel goes on from one block to the next.
 --     chain-held       the records that any numbers stand for are held
---     played-held      a block leaves them so
 --     start-stands     after a start the panel stands for the started chain
 --     scan-stands      after a scan that is taken, for the chain with the scanned chip
 --     block-stands     after a block that is taken, the panel's numbers pass the tests and stand for the chain that played it
@@ -32,15 +31,16 @@ use Rattle.chain.specs.declared.Chain.{Chain}
 use Rattle.chain.specs.Blocks.{risesIn, blockOf}
 use Rattle.chain.specs.Entries.{startChain, chipAt, withChip, scannedOf}
 use Rattle.chain.specs.Chain.{most, chipCount, allValid, checkedFrom, testedOf, steppedRow, steppedChain, played}
+use Rattle.chip.proofs.Held.{HeldChip, scanned-held, reset-held}
+use Rattle.chain.proofs.Held.{AllHeld, played-held, set-held, played-length}
 use Rattle.chain.proofs.Laws.{checked-below, played-rest, played-valid}
 use Rattle.chain.proofs.Passed.{start-done}
 use Rattle.chain.proofs.Rest.{row-length}
 use Rattle.chain.proofs.Tested.{tested-done, count-high}
 use Rattle.zhaqsumir.specs.Panels.{fromChip, countIn, testedIn, chipIn, chainOf, panelNumbers, panelBy, blockIn, scannedIn, StartsNumbers, BlocksNumbers, ScansNumbers}
-use Rattle.zhaqsumir.proofs.ChainPanels.{AllHeld, rows-length, Stands, chain-back}
-use Rattle.zhaqsumir.proofs.ChipNumbers.{HeldChip}
+use Rattle.zhaqsumir.proofs.ChainPanels.{rows-length, Stands, chain-back}
+use Rattle.zhaqsumir.proofs.ChipNumbers.{numbers-held}
 use Rattle.zhaqsumir.proofs.Counts.{atPlaces}
-use Rattle.zhaqsumir.proofs.Held.{stepped-held, scanned-held, reset-held, numbers-held}
 
 -- ---- held records
 
@@ -53,28 +53,6 @@ pub chain-held : (ns : List ℕ) (n : ℕ) → AllHeld n (chainOf ns .chips)
 unfolding chainOf
 chain-held ns n =
     places-held (chipIn ns) n 8 (λ k. pick-cases HeldChip (ltb k (countIn ns)) (λ e. numbers-held (fromChip k ns)) (λ e. reset-held))
-
-row-held : (n was now : ℕ) (d : Bool) (cs : List Chip) → AllHeld n cs → AllHeld n (steppedRow n was now d cs)
-unfolding steppedRow
-row-held zero was now d cs h = h
-row-held (suc n) was now d [] h = h
-row-held (suc n) was now d (c ∷ cs) h = (stepped-held was now d c (h .0), row-held n was now (dout c) cs (h .1))
-
-pub played-held : (n : ℕ) (ss : List ℕ) (ch : Chain) → AllHeld n (ch .chips) → AllHeld n (played n ss ch .chips)
-unfolding played
-played-held n [] ch h = h
-played-held n (s ∷ ss) ch h = played-held n ss (steppedChain n s ch) (row-held n (ch .levels) s (din s) (ch .chips) h)
-
-played-length : (n : ℕ) (ss : List ℕ) (ch : Chain) → length (played n ss ch .chips) ≡ length (ch .chips)
-unfolding played
-played-length n [] ch = refl
-played-length n (s ∷ ss) ch = played-length n ss (steppedChain n s ch) ∙ row-length n (ch .levels) s (din s) (ch .chips)
-
-set-held : (n k : ℕ) (cs : List Chip) (f : Chip → Chip) → ((c : Chip) → HeldChip c → HeldChip (f c)) → AllHeld n cs → AllHeld n (set cs k (f (getD cs k resetChip)))
-set-held zero k cs f each h = h
-set-held (suc n) k [] f each h = h
-set-held (suc n) zero (c ∷ cs) f each h = (each c (h .0), h .1)
-set-held (suc n) (suc k) (c ∷ cs) f each h = (h .0, set-held n k cs f each (h .1))
 
 -- ---- a start, and a scan that is taken
 

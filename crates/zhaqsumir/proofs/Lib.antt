@@ -6,7 +6,6 @@ pub mod Fitting
 pub mod Ch450Panels
 pub mod ChainRows
 pub mod ChipNumbers
-pub mod Held
 pub mod ChainPanels
 pub mod GoesOn
 pub mod Unread

@@ -1,9 +1,10 @@
--- A record that its fields hold stays one, whatever the chip's wires and contacts do.
+-- What the fields of a record hold, by their widths, beside what a chip can hold: such a record stays one, whatever the chip's wires and
+-- contacts do.
+--     HeldChip         each number fits its field, and there are eight digits
 --     obey-held        a legal command leaves it so
 --     stepped-held     so does any sample
 --     scanned-held     so does any scan
 --     reset-held       a chip as a start makes it is one
---     numbers-held     so is what any numbers stand for
 -- Assumes nothing.
 use mathlib.Core.Path.{_≡_, refl, ap, sym, subst, _∙_}
 use mathlib.Core.Bool.{Bool, true, false}
@@ -25,17 +26,31 @@ use Rattle.word.specs.declared.Command.{Command}
 use Rattle.word.specs.declared.Command.the-variants.{NoOperation, BarLevel, SegmentClear, SegmentSet, Reset, Sleep, ShiftLeft, ShiftRight, RotateLeft, RotateRight, CustomCharacter, SystemParameters, DisplayParameters, BlinkByte, ReadKey, LoadDigit}
 use Rattle.word.specs.Words.{decodedOf, legal}
 use Rattle.word.proofs.RoundTrips.{meaning-legal}
 use Rattle.chip.specs.declared.Chip.{Chip}
 use Rattle.chip.specs.declared.Keys.{Keys}
 use Rattle.chip.specs.declared.LineParts.{LineParts}
 use Rattle.chip.specs.Record.{none, blank, resetChip, withDigits, withLine, withKeys, withReadout, endedReadout, withCustom, withDisplay, withBlink, withSleeping, withLast}
 use Rattle.chip.specs.Commands.{address, lit, bar, segment, movedLeft, movedRight, reset, system, readKey, obey, woken, applied, appliedWord}
 use Rattle.chip.specs.Edges.{dclkFalls, dclkRises, loadRises, clockedIn, clockedOut, clocked, loaded, stepped}
 use Rattle.chip.specs.Scans.{result, wakes, newKey, bothNone, keyed, scannedBy, scanned}
 use Rattle.chip.proofs.Closed.{result-le}
-use Rattle.zhaqsumir.specs.Panels.{byteAt, chipOf}
-use Rattle.zhaqsumir.proofs.ChipNumbers.{HeldChip}
-use Rattle.zhaqsumir.proofs.Fitting.{digit-lt}
+use Rattle.base.proofs.Lists.{below-at}
+
+-- what the fields of a record hold
+abbrev pub HeldChip : Chip → Type 0
+HeldChip c =
+    record {
+      register : c .line .register < 65536;
+      code : c .line .readout .code < 256;
+      left : c .line .readout .left < 256;
+      limit : c .settings .display .limit < 256;
+      blink : c .settings .blink < 256;
+      custom : c .settings .custom < 256;
+      eight : length (c .digits) ≡ 8;
+      digits : AllBelow 256 (c .digits);
+      key : c .keys .code < 256;
+      last : c .keys .last < 256;
+    }
 
 -- ---- commands
 
@@ -71,12 +86,12 @@ below-set (d ∷ ds) (suc k) byte l b = (b .0, below-set ds k byte l (b .1))
 
 left-held : (fill : ℕ) (c : Chip) → fill < 256 → HeldChip c → HeldChip (withDigits (movedLeft fill (c .digits)) c)
 left-held fill c l h =
-    let at : (k : ℕ) → getD (c .digits) k 0 < 256 = λ k. digit-lt (c .digits) k (h .digits) in
+    let at : (k : ℕ) → getD (c .digits) k 0 < 256 = λ k. below-at 256 (c .digits) k (omega arith) (h .digits) in
     held-digits (movedLeft fill (c .digits)) c refl (l, (at 0, (at 1, (at 2, (at 3, (at 4, (at 5, (at 6, tt)))))))) h
 
 right-held : (fill : ℕ) (c : Chip) → fill < 256 → HeldChip c → HeldChip (withDigits (movedRight fill (c .digits)) c)
 right-held fill c l h =
-    let at : (k : ℕ) → getD (c .digits) k 0 < 256 = λ k. digit-lt (c .digits) k (h .digits) in
+    let at : (k : ℕ) → getD (c .digits) k 0 < 256 = λ k. below-at 256 (c .digits) k (omega arith) (h .digits) in
     held-digits (movedRight fill (c .digits)) c refl (at 1, (at 2, (at 3, (at 4, (at 5, (at 6, (at 7, (l, tt)))))))) h
 
 -- a readout's code and bits left, and the key record's code and last scan, exchanged
@@ -127,8 +142,8 @@ obey-held Reset c t h = reset-held-by c h
 obey-held Sleep c t h = h
 obey-held ShiftLeft c t h = left-held 0 c (omega arith) h
 obey-held ShiftRight c t h = right-held 0 c (omega arith) h
-obey-held RotateLeft c t h = left-held (getD (c .digits) 7 0) c (digit-lt (c .digits) 7 (h .digits)) h
-obey-held RotateRight c t h = right-held (getD (c .digits) 0 0) c (digit-lt (c .digits) 0 (h .digits)) h
+obey-held RotateLeft c t h = left-held (getD (c .digits) 7 0) c (below-at 256 (c .digits) 7 (omega arith) (h .digits)) h
+obey-held RotateRight c t h = right-held (getD (c .digits) 0 0) c (below-at 256 (c .digits) 0 (omega arith) (h .digits)) h
 obey-held (CustomCharacter shape) c t h = let l = leb→le shape 127 t in held-rest c (withCustom shape c) (h .register) (h .code) (h .left) (h .limit) (h .blink) (omega arith) refl (h .key) (h .last) h
 obey-held (SystemParameters s) c t h =
     pick-cases HeldChip (s .keyb) (λ e. h) (λ e. held-rest c (endedReadout (withLast none c)) (h .register) (h .code) (omega arith) (h .limit) (h .blink) (h .custom) refl (h .key) (omega arith) h)
@@ -209,21 +224,4 @@ reset-held =
       digits = blank-below;
       key = omega arith;
       last = omega arith;
-    }
-
-pub numbers-held : (ns : List ℕ) → HeldChip (chipOf ns)
-unfolding chipOf
-numbers-held ns =
-    let byte : (j : ℕ) → byteAt ns j < 256 = λ j. mod-lt (getD ns j 0) (omega arith) in
-    record {
-      register = mod-lt (getD ns 0 0) (omega arith);
-      code = byte 2;
-      left = byte 3;
-      limit = byte 10;
-      blink = byte 11;
-      custom = byte 12;
-      eight = refl;
-      digits = (byte 14, (byte 15, (byte 16, (byte 17, (byte 18, (byte 19, (byte 20, (byte 21, tt))))))));
-      key = byte 22;
-      last = byte 24;
     }
