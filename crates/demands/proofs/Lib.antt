@@ -31,6 +31,7 @@ pub mod Blocks
 pub mod BlockCalls
 pub mod BlockPlaces
 pub mod PanelBlocks
+pub mod PanelJoined
 pub mod RisePlaces
 pub mod Direct
 pub mod Whole

@@ -1,4 +1,5 @@
 -- A recording that arrives in blocks, in C: specs/PanelBlocks.antt.
+--     it-is-taken             a call with samples up to 7 and a list that is long enough is taken
 --     panel-cut-law           blocks of any lengths leave what one call over the whole leaves
 --     panel-cut-exception     a refused call changes nothing
 -- Assumes nothing.
@@ -44,7 +45,7 @@ counted ns e = go (chipCount (countIn ns)) _ e
     go false t e = absurd (subst IsDone (sym e) tt)
 
 module _ (ns : List ℕ) (h : HeldPanel ns) (ss list : List ℕ) (below : AllBelow 8 ss) (room : length (risesIn (chainOf ns) ss) ≤ length list) where
-  it-is-taken : Taken ns ss list
+  pub it-is-taken : Taken ns ss list
   it-is-taken =
       let tests = tests-pass (countIn ns) (chainOf ns) (counted ns (h .fits)) (h .valid) in
       let fine = below-checked 0 ss below in

@@ -1,11 +1,13 @@
 -- Document 02, C-11, for C: a recording that arrives in blocks, played into one panel that is lent as numbers and changed in place by each
 -- call of `zhaqsumir_block`. Of that function nothing is used but its contract. `Sent`, `samplesOf` and `LongEnough` are those of
 -- specs/Blocks.antt.
---     PanelSends           results of calls one after another, each going on from the numbers that the one before left
---     placesBy, panelPlaces     the places that calls wrote, earlier blocks' lengths added, joined
---     Taken                the numbers are of a panel that isn't refused
---     PanelCutLaw          blocks beside one call over the whole
---     PanelCutException    a refused call changes nothing
+--     PanelSends, AllAnswered     results of calls one after another, each going on from the numbers that the one before left; none was refused
+--     placesBy, panelPlaces       the places that calls wrote, earlier blocks' lengths added, joined
+--     HeldPanel                   the numbers are of a panel that isn't refused
+--     PanelCutLaw                 blocks beside one call over the whole
+--     PanelCutException           a refused call changes nothing
+--     PanelAcceptedJoined         the last numbers are those of one call over the accepted blocks joined
+--     PanelSentRun                any calls have results
 -- Assumes nothing.
 use mathlib.Core.Path.{_≡_}
 use mathlib.Core.Logic.{_⊎_}
@@ -19,7 +21,7 @@ use Rattle.base.specs.Refusals.{done}
 use Rattle.chain.specs.Chain.{validChain}
 use Rattle.chain.specs.Blocks.{risesIn}
 use Rattle.zhaqsumir.specs.Panels.{countIn, testedIn, chainOf, BlocksNumbers}
-use Rattle.demands.specs.Blocks.{Sent, block, samplesOf, LongEnough}
+use Rattle.demands.specs.Blocks.{Sent, block, samplesOf, LongEnough, BlocksOnly}
 
 -- results of calls with a block and a list each, in order, by the contract
 pub data PanelSends : List ℕ → List Sent → List ℕ → Type 0 where
@@ -86,3 +88,19 @@ abbrev pub PanelCutException : Type 0
 PanelCutException =
     (ns : List ℕ) (sent : List Sent) (end : List ℕ) (ran : PanelSends ns sent end)
     → RefusedLeaves ran × ((alone : PanelSends ns (acceptedCalls ran) end) × AllAnswered alone)
+
+-- and these are the numbers that one call over the accepted blocks joined leaves, with any list that is long enough: of any 202 numbers, also
+-- those of a panel that is refused
+abbrev pub PanelAcceptedJoined : Type 0
+PanelAcceptedJoined =
+    (ns : List ℕ)
+    → length ns ≡ 202
+    → (sent : List Sent) (end : List ℕ) (ran : PanelSends ns sent end)
+    → (list answer ns′ list′ : List ℕ)
+    → BlocksNumbers ns (samplesOf (acceptedCalls ran)) list answer ns′ list′
+    → length (risesIn (chainOf ns) (samplesOf (acceptedCalls ran))) ≤ length list
+    → end ≡ ns′
+
+-- any calls have results that the contract allows
+abbrev pub PanelSentRun : Type 0
+PanelSentRun = (ns : List ℕ) (sent : List Sent) → BlocksOnly sent → (end : List ℕ) × PanelSends ns sent end

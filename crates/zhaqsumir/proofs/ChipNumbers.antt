@@ -15,7 +15,6 @@ use native.Mathlib.Omega.{arith}
 use borrow.Author.Tests.{le-leb}
 use lib.Dec.{T, leb, ltb}
 use lib.ListN.{length, getD, take}
-use Rattle.base.specs.Below.{AllBelow}
 use Rattle.base.specs.Bits.{bitValue}
 use Rattle.base.proofs.Cuts.{bit-value-back}
 use Rattle.base.proofs.Lists.{below-at}

@@ -9,13 +9,13 @@
 -- Assumes nothing.
 use mathlib.Core.Path.{_≡_, refl, ap, ap₂, sym, subst, _∙_}
 use mathlib.Core.Bool.{Bool, true, false}
-use mathlib.Core.List.{List, [], _∷_, _++_}
+use mathlib.Core.List.{List, _∷_, _++_}
 use Prim.Native.Nat.{ℕ, zero, suc, _+_, _*_, _≤_, _<_, suc-le-suc}
 use native.Mathlib.Nat.{le-refl, mod-lt}
 use native.Mathlib.Omega.{arith}
 use borrow.Author.Tests.{le-ltb}
 use lib.Dec.{T, leb, ltb, leb→le}
-use lib.ListN.{length, getD, drop, set, length-set, length-append, length-drop, take-append-drop}
+use lib.ListN.{length, getD, drop, length-set, length-append, length-drop, take-append-drop}
 use lib.Seq.{drop-at}
 use Rattle.base.specs.Lent.{laid}
 use Rattle.base.specs.Pick.{pick}
@@ -24,18 +24,15 @@ use Rattle.base.proofs.Picks.{pick-no, pick-cases}
 use Rattle.base.proofs.Tests.{and-right}
 use Rattle.chip.specs.declared.Chip.{Chip}
 use Rattle.chip.specs.Record.{resetChip}
-use Rattle.chip.specs.Commands.{dout}
-use Rattle.chip.specs.Edges.{din}
 use Rattle.chip.specs.Scans.{Recording, scanned, recorded}
 use Rattle.chain.specs.declared.Chain.{Chain}
 use Rattle.chain.specs.Blocks.{risesIn, blockOf}
 use Rattle.chain.specs.Entries.{startChain, chipAt, withChip, scannedOf}
-use Rattle.chain.specs.Chain.{most, chipCount, allValid, checkedFrom, testedOf, steppedRow, steppedChain, played}
+use Rattle.chain.specs.Chain.{most, chipCount, allValid, checkedFrom, testedOf, played}
 use Rattle.chip.proofs.Held.{HeldChip, scanned-held, reset-held}
 use Rattle.chain.proofs.Held.{AllHeld, played-held, set-held, played-length}
 use Rattle.chain.proofs.Laws.{checked-below, played-rest, played-valid}
 use Rattle.chain.proofs.Passed.{start-done}
-use Rattle.chain.proofs.Rest.{row-length}
 use Rattle.chain.proofs.Tested.{tested-done, count-high}
 use Rattle.zhaqsumir.specs.Panels.{fromChip, countIn, testedIn, chipIn, chainOf, panelNumbers, panelBy, blockIn, scannedIn, StartsNumbers, BlocksNumbers, ScansNumbers}
 use Rattle.zhaqsumir.proofs.ChainPanels.{rows-length, Stands, chain-back}
