@@ -108,6 +108,8 @@ static void prepare(void)
         } while (answer[0] != 0 || words[i] == 0x202 || ((words[i] & 0xFC2) == 0x402 && i % CHIPS != CHIPS - 1));
     }
     twin_write(CHIPS, words, ROWS * CHIPS, recording, WRITTEN, answer);
+    if (answer[0] != 0)
+        exit(1);
     for (i = 1; i < ROUNDS; i++)
         memcpy(recording + i * WRITTEN, recording, WRITTEN);
 }

@@ -33,7 +33,7 @@ static void scan(const unsigned char contacts[8])
 {
     unsigned long answer[ZHAQSUMIR_SCAN_ANSWER];
 
-    zhaqsumir_scan(&panel, 2, contacts, answer);
+    zhaqsumir_scan(&panel, 2, contacts, answer); /* chip 2 of a panel of 3 is never refused */
     switch (answer[ZHAQSUMIR_SCAN_TOLD]) {
     case ZHAQSUMIR_SCAN_KEY: printf("scan: %02lXH recorded\n", answer[ZHAQSUMIR_SCAN_CODE]); break;
     case ZHAQSUMIR_SCAN_OVER_UNREAD: printf("scan: %02lXH recorded over an unread code\n", answer[ZHAQSUMIR_SCAN_CODE]); break;

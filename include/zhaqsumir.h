@@ -215,10 +215,10 @@ enum {
     ZHAQSUMIR_CHIP_SLEEPING = 13,     /* a bit */
     ZHAQSUMIR_CHIP_DIGITS = 14,       /* the data bytes of DIG0 to DIG7, eight of them, 0 to 255 each */
     ZHAQSUMIR_CHIP_CODE = 22,         /* the key code, 0 to 127 */
-    ZHAQSUMIR_CHIP_INTERRUPT = 23,    /* a bit: 1 while the code is unread */
-    ZHAQSUMIR_CHIP_LAST_SCAN = 24     /* the smallest closed address of the last scan, 0 to 63, or 64: none */
+    ZHAQSUMIR_CHIP_INTERRUPT = 23,    /* a bit: 1 while an interrupt stands */
+    ZHAQSUMIR_CHIP_LAST_SCAN = 24     /* the smallest closed address of the last scan taken awake with KEYB 1, 0 to 63, or 64: none */
 };
-enum { ZHAQSUMIR_NO_KEY = 64 };       /* the last scan closed no contact; so it is too after a reset, KEYB 0 and a scan that wakes a chip */
+enum { ZHAQSUMIR_NO_KEY = 64 };       /* the last scan closed no contact; so it is too after a reset, KEYB 0 or a scan that wakes a chip */
 
 /* A panel of CH452 chips. It is the caller's, goes on from call to call, and may be copied, kept and handed over again like any struct. */
 typedef struct {

@@ -33,7 +33,7 @@ risesTell (Refused e) = refusedBy e
 abbrev pub handedBlock : AfterBlock → Outcome Chain ℕ
 handedBlock r = record { state = r .chain; told = risesTell (r .answer) }
 
--- a block of samples: refusals 3, 12, 1, and 8 where the list is shorter than the rises; refused, the record is as it was, the levels included
+-- a block of samples: refusals 3, 12, 1, and 8 where the list is shorter than the rises; refused, the record is as it was
 unfoldable pub blockOf : ℕ → Chain → List ℕ → List ℕ → Outcome Chain ℕ
 blockOf n ch ss list =
     onceTested (testedOf n ch) ch

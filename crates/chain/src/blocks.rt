@@ -65,7 +65,8 @@ fn listed(n: usize, chain: Chain, samples: &[u8], rises: &mut [u64]) -> Chain
     next
 }
 
-// A block of samples whose places go to the front of the list: refusals 3, 12, 1, 8. Refused: the record and the list as they were.
+// A block of samples, the places of whose LOAD rises go to the front of the list: refusals 3, 12, 1, 8. Refused: the record and the list
+// as they were.
 pub fn block(n: usize, chain: Chain, samples: &[u8], rises: &mut [u64]) -> AfterBlock
     ensures { λ r. ⌜ B.Blocks n chain (now (samples .entry)) (now (rises .entry)) r (now (rises .exit)) ⌝ }
 {

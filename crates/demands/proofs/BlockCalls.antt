@@ -34,7 +34,7 @@ use Rattle.writer.specs.Rows.{rowsOf}
 use Rattle.zhaqsumir.specs.Numbers.{numberIn, placeIn}
 use Rattle.demands.specs.Calls.{Ran, eventsOf}
 use Rattle.demands.specs.Calls as Calls
-use Rattle.demands.specs.Blocks.{Sent, block, scan, callsOf, samplesOf, Sends, over, taken, scanned, NoneRefused, LongEnough, Demand3Blocks, SentRun}
+use Rattle.demands.specs.Blocks.{Sent, block, scan, callsOf, samplesOf, Sends, over, called, scanned, NoneRefused, LongEnough, Demand3Blocks, SentRun}
 use Rattle.demands.specs.Demand3.{Asked}
 use Rattle.demands.proofs.Going.{Going, rowsLeft}
 use Rattle.demands.proofs.Demand3 as Three
@@ -105,7 +105,7 @@ sent-run n ch (block ss list ∷ sent) =
     let o = blockOf n ch ss list in
     let a = some-rises n ch ss list in
     let later = sent-run n (o .state) sent in
-    (later .0, taken (record { chain = o .state; answer = a .0 }) (listOf n ch ss list) (record { answer = λ i. record { state = o .state; told = (a .1) i }; places = refl }) (later .1))
+    (later .0, called (record { chain = o .state; answer = a .0 }) (listOf n ch ss list) (record { answer = λ i. record { state = o .state; told = (a .1) i }; places = refl }) (later .1))
 sent-run n ch (scan k bytes ∷ sent) =
     let o = scannedOf n ch k bytes in
     let a = some-scan n ch k bytes in
@@ -122,7 +122,7 @@ module _ (n : ℕ) (fits : n ≤ most) (count : T (chipCount n)) where
       → LongEnough n ch sent
       → NoneRefused ran × Ran n ch (callsOf sent) ch′
   sends-ran rest over rows g below long = (tt, Calls.over)
-  sends-ran rest {ch} (taken {samples = ss} {list = list} {sent = sent} r list′ contract next) rows g below long =
+  sends-ran rest {ch} (called {samples = ss} {list = list} {sent = sent} r list′ contract next) rows g below long =
       let more = samplesOf sent ++ rest in
       let going = subst (Going n most ch rows) (append-assoc ss (samplesOf sent) rest) g in
       let step = block-played n fits count ss more ch rows going in

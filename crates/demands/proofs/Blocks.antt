@@ -26,7 +26,7 @@ use Rattle.chain.specs.Blocks.{risesFrom, risesIn, risesTell, blockOf, listBy, 
 use Rattle.chain.proofs.Laws.{lastOf, played-append, played-levels, played-valid, below-checked}
 use Rattle.chain.proofs.Passed.{tests-pass, block-done}
 use Rattle.chain.proofs.Rises.{rises-append, rises-moved}
-use Rattle.demands.specs.Blocks.{Sent, block, scan, samplesOf, Sends, over, taken, scanned, NoneRefused, LongEnough, BlocksOnly, placesOf, placesIn, CutLaw, acceptedOf, acceptedIn, CutException}
+use Rattle.demands.specs.Blocks.{Sent, block, scan, samplesOf, Sends, over, called, scanned, NoneRefused, LongEnough, BlocksOnly, placesOf, placesIn, CutLaw, acceptedOf, acceptedIn, CutException}
 use Rattle.demands.proofs.Unchanged.{block-kept, list-kept}
 
 -- ---- one accepted call
@@ -76,7 +76,7 @@ module _ (n : ℕ) (count : T (chipCount n)) where
   unfolding played risesFrom
   cut before over v only below long = (tt, refl, refl)
   cut before (scanned r contract next) v only below long = absurd only
-  cut before {ch} (taken {samples = ss} {list = list} {sent = sent} r list′ contract next) v only below long =
+  cut before {ch} (called {samples = ss} {list = list} {sent = sent} r list′ contract next) v only below long =
       let first = below-front 8 ss (samplesOf sent) below in
       let a = accepted n ch (tests-pass n ch count v) ss list first (long .0) r list′ contract in
       let same = a .chain in
@@ -132,7 +132,7 @@ pub cut-exception : CutException
 unfolding played
 cut-exception n ch [] only ch′ over = (tt, refl)
 cut-exception n ch (scan k bytes ∷ sent) only ch′ ran = absurd only
-cut-exception n ch (block ss list ∷ sent) only ch′ (taken r list′ contract next) =
+cut-exception n ch (block ss list ∷ sent) only ch′ (called r list′ contract next) =
     let later = cut-exception n (r .chain) sent only ch′ next in
     let told = ap (λ o. o .told) (contract .answer) in
     let state = ap (λ o. o .state) (contract .answer) in

@@ -25,11 +25,11 @@ use Rattle.chain.proofs.Laws.{lastOf, played-append, played-levels, played-vali
 use Rattle.chain.proofs.Passed.{tests-pass, block-done}
 use Rattle.chain.proofs.Rises.{rises-append, rises-moved}
 use Rattle.zhaqsumir.specs.Numbers.{alone}
-use Rattle.zhaqsumir.specs.Panels.{countIn, testedIn, chainOf, panelNumbers, BlocksNumbers}
+use Rattle.zhaqsumir.specs.Panels.{countIn, testedIn, chainOf, chainNumbers, BlocksNumbers}
 use Rattle.zhaqsumir.proofs.ChainPanels.{numbers-back}
 use Rattle.zhaqsumir.proofs.GoesOn.{Taken, panel-after, block-stands, numbers-length, chain-next, next-length, laid-over}
 use Rattle.demands.specs.Blocks.{Sent, block, samplesOf, LongEnough}
-use Rattle.demands.specs.PanelBlocks.{PanelSends, over, taken, AllAnswered, placesBy, panelPlaces, HeldPanel, PanelCutLaw, RefusedLeaves, acceptedCalls, PanelCutException}
+use Rattle.demands.specs.PanelBlocks.{PanelSends, over, called, AllAnswered, placesBy, panelPlaces, SoundPanel, PanelCutLaw, RefusedLeaves, acceptedCalls, PanelCutException}
 use Rattle.demands.proofs.Blocks.{below-front, below-back}
 use Rattle.demands.proofs.UnchangedPanels.{numbers-kept}
 
@@ -44,7 +44,7 @@ counted ns e = go (chipCount (countIn ns)) _ e
     go true t e = tt
     go false t e = absurd (subst IsDone (sym e) tt)
 
-module _ (ns : List ℕ) (h : HeldPanel ns) (ss list : List ℕ) (below : AllBelow 8 ss) (room : length (risesIn (chainOf ns) ss) ≤ length list) where
+module _ (ns : List ℕ) (h : SoundPanel ns) (ss list : List ℕ) (below : AllBelow 8 ss) (room : length (risesIn (chainOf ns) ss) ≤ length list) where
   pub it-is-taken : Taken ns ss list
   it-is-taken =
       let tests = tests-pass (countIn ns) (chainOf ns) (counted ns (h .fits)) (h .valid) in
@@ -72,7 +72,7 @@ module _ (ns : List ℕ) (h : HeldPanel ns) (ss list : List ℕ) (below : AllBel
         ∙ take-at places (drop (length places) list) (length places) refl
 
     -- the panel after it isn't refused either
-    held-next : HeldPanel ns′
+    held-next : SoundPanel ns′
     held-next =
         let stands = block-stands ns ss list it-is-taken b in
         record {
@@ -86,14 +86,14 @@ module _ (ns : List ℕ) (h : HeldPanel ns) (ss list : List ℕ) (below : AllBel
 -- ---- the cut law
 
 -- what blocks leave, so many samples having come before them
-cut : (before : ℕ) {ns end : List ℕ} {sent : List Sent} (ran : PanelSends ns sent end) → HeldPanel ns → AllBelow 8 (samplesOf sent)
+cut : (before : ℕ) {ns end : List ℕ} {sent : List Sent} (ran : PanelSends ns sent end) → SoundPanel ns → AllBelow 8 (samplesOf sent)
     → LongEnough (countIn ns) (chainOf ns) sent
     → AllAnswered ran
-    × (end ≡ laid (panelNumbers (countIn ns) (countIn ns) (played (countIn ns) (samplesOf sent) (chainOf ns))) ns)
+    × (end ≡ laid (chainNumbers (countIn ns) (countIn ns) (played (countIn ns) (samplesOf sent) (chainOf ns))) ns)
     × (panelPlaces before ran ≡ risesFrom before (chainOf ns .levels) (samplesOf sent))
 unfolding played risesFrom
 cut before {ns} over h below long = (tt, sym (numbers-back ns (h .size) (h .fits)), refl)
-cut before {ns} (taken {samples = ss} {list = list} {sent = sent} answer ns′ list′ b next) h below long =
+cut before {ns} (called {samples = ss} {list = list} {sent = sent} answer ns′ list′ b next) h below long =
     let m = countIn ns in
     let ch = chainOf ns in
     let rest = samplesOf sent in
@@ -106,9 +106,9 @@ cut before {ns} (taken {samples = ss} {list = list} {sent = sent} answer ns′ l
     (subst (λ x. LongEnough (countIn ns′) x sent) (sym same) (subst (λ k. LongEnough k (played m ss ch) sent) (sym count) (long .1))) in
     let levels : chainOf ns′ .levels ≡ lastOf (ch .levels) ss = ap (λ x. x .levels) same ∙ played-levels m ss ch in
     let zero-more : before + 0 ≡ before = omega arith in
-    let w = panelNumbers m m (played m (ss ++ rest) ch) in
-    let v = panelNumbers m m (played m ss ch) in
-    let put : panelNumbers (countIn ns′) (countIn ns′) (played (countIn ns′) rest (chainOf ns′)) ≡ w = ap₂ (λ k x. panelNumbers k k (played k rest x)) count same ∙ ap (panelNumbers m m) (sym (played-append m ss rest ch)) in (
+    let w = chainNumbers m m (played m (ss ++ rest) ch) in
+    let v = chainNumbers m m (played m ss ch) in
+    let put : chainNumbers (countIn ns′) (countIn ns′) (played (countIn ns′) rest (chainOf ns′)) ≡ w = ap₂ (λ k x. chainNumbers k k (played k rest x)) count same ∙ ap (chainNumbers m m) (sym (played-append m ss rest ch)) in (
       (accepted-0 ns h ss list first (long .0) b, later .0),
       later .1
           ∙ ap₂ laid put (panel-after ns ss list t b)
@@ -139,7 +139,7 @@ Alone ns sent end = (alone : PanelSends ns sent end) × AllAnswered alone
 one-more : {ns end ss list : List ℕ} {sent : List Sent} (answer ns′ list′ : List ℕ) → BlocksNumbers ns ss list answer ns′ list′ → getD answer 0 0 ≡ 0 → Alone ns′ sent end
     → Alone ns (pick (eqb (getD answer 0 0) 0) (block ss list ∷ sent) sent) end
 one-more {ns} {end} answer ns′ list′ b e a =
-    subst (λ calls. Alone ns calls end) (sym (pick-yes _ _ (eq-eqb (getD answer 0 0) 0 e))) (taken answer ns′ list′ b (a .0), (e, a .1))
+    subst (λ calls. Alone ns calls end) (sym (pick-yes _ _ (eq-eqb (getD answer 0 0) 0 e))) (called answer ns′ list′ b (a .0), (e, a .1))
 
 -- one that was refused is not
 none-more : {ns end : List ℕ} (ss list : List ℕ) {sent : List Sent} (answer ns′ : List ℕ) → (getD answer 0 0 ≡ 0 → ⊥) → ns′ ≡ ns → Alone ns′ sent end
@@ -149,7 +149,7 @@ none-more {ns} {end} ss list {sent} answer ns′ ne same a =
 
 pub panel-cut-exception : PanelCutException
 panel-cut-exception ns [] end over = (tt, (over, tt))
-panel-cut-exception ns (block ss list ∷ sent) end (taken answer ns′ list′ b next) = go (getD answer 0 0) refl (panel-cut-exception ns′ sent end next)
+panel-cut-exception ns (block ss list ∷ sent) end (called answer ns′ list′ b next) = go (getD answer 0 0) refl (panel-cut-exception ns′ sent end next)
   where
     go : (m : ℕ) → getD answer 0 0 ≡ m → RefusedLeaves next × Alone ns′ (acceptedCalls next) end
         → (((getD answer 0 0 ≡ 0) ⊎ ((ns′ ≡ ns) × (list′ ≡ list))) × RefusedLeaves next)

@@ -20,11 +20,11 @@ use Rattle.chain.specs.Chain.{chipCount, validChain, testedOf, checkedFrom, pla
 use Rattle.chain.proofs.Laws.{checked-below}
 use Rattle.chain.proofs.Tested.{tested-done}
 use Rattle.zhaqsumir.specs.Numbers.{numberIn, alone}
-use Rattle.zhaqsumir.specs.Panels.{countIn, chipFitsIn, testedIn, chainOf, panelNumbers, panelBy, blockIn, BlocksNumbers}
+use Rattle.zhaqsumir.specs.Panels.{countIn, chipFitsIn, testedIn, chainOf, chainNumbers, panelBy, blockIn, BlocksNumbers}
 use Rattle.zhaqsumir.proofs.ChainPanels.{no-samples}
 use Rattle.zhaqsumir.proofs.GoesOn.{block-stands, chain-next, next-length}
 use Rattle.demands.specs.Blocks.{Sent, block, scan, samplesOf, LongEnough}
-use Rattle.demands.specs.PanelBlocks.{PanelSends, over, taken, AllAnswered, HeldPanel, PanelAcceptedJoined, PanelSentRun}
+use Rattle.demands.specs.PanelBlocks.{PanelSends, over, called, AllAnswered, SoundPanel, PanelAcceptedJoined, PanelSentRun}
 use Rattle.demands.proofs.PanelBlocks.{it-is-taken, panel-cut-law, panel-cut-exception}
 
 -- ---- a call whose answer begins with 0
@@ -58,7 +58,7 @@ samples-test place (s ∷ ss) = go (leb s 7) (samples-test (suc place) ss)
 
 -- the panel isn't refused, no sample is above 7, and the list is long enough
 pub record Sound (ns ss list : List ℕ) : Type 0 where
-  pub panel : HeldPanel ns
+  pub panel : SoundPanel ns
   pub small : AllBelow 8 ss
   pub room : length (risesIn (chainOf ns) ss) ≤ length list
 
@@ -95,7 +95,7 @@ sound ns ss list size =
 -- there are none, or the law speaks of them
 data Lawful (ns : List ℕ) : List Sent → Type 0 where
   none : Lawful ns []
-  some : {sent : List Sent} → HeldPanel ns → AllBelow 8 (samplesOf sent) → LongEnough (countIn ns) (chainOf ns) sent → Lawful ns sent
+  some : {sent : List Sent} → SoundPanel ns → AllBelow 8 (samplesOf sent) → LongEnough (countIn ns) (chainOf ns) sent → Lawful ns sent
 
 -- a call before them
 one-before : {ns ns′ ss list : List ℕ} {sent : List Sent} → Sound ns ss list → countIn ns′ ≡ countIn ns → chainOf ns′ ≡ played (countIn ns) ss (chainOf ns)
@@ -108,7 +108,7 @@ one-before {ns} {ns′} {ss} {list} {sent} s count chain (some held small long) 
 
 lawful : {ns end : List ℕ} {sent : List Sent} (ran : PanelSends ns sent end) → length ns ≡ 202 → AllAnswered ran → Lawful ns sent
 lawful over size all = none
-lawful {ns} (taken {samples = ss} {list = list} answer ns′ list′ b next) size all =
+lawful {ns} (called {samples = ss} {list = list} answer ns′ list′ b next) size all =
     let s = sound ns ss list size (sym (ap (λ xs. getD xs 0 0) (b .numbers)) ∙ all .0) in
     let t = it-is-taken ns (s .panel) ss list (s .small) (s .room) in
     one-before s (block-stands ns ss list t b .count) (chain-next ns ss list t b) (lawful next (next-length ns ss list t b size) (all .1))
@@ -134,6 +134,6 @@ panel-sent-run ns [] only = (ns, over)
 panel-sent-run ns (scan k bytes ∷ sent) only = absurd only
 panel-sent-run ns (block ss list ∷ sent) only =
     let o = blockIn ns ss list in
-    let ns′ = panelBy (o .told) (panelNumbers (countIn ns) (countIn ns) (o .state)) ns in
+    let ns′ = panelBy (o .told) (chainNumbers (countIn ns) (countIn ns) (o .state)) ns in
     let later = panel-sent-run ns′ sent only in
-    (later .0, taken (alone (o .told)) ns′ (listBy (o .told) (risesIn (chainOf ns) ss) list) (record { numbers = refl; panel = refl; places = refl }) (later .1))
+    (later .0, called (alone (o .told)) ns′ (listBy (o .told) (risesIn (chainOf ns) ss) list) (record { numbers = refl; panel = refl; places = refl }) (later .1))

@@ -1,5 +1,5 @@
--- Document 02, C-11: a recording that arrives in blocks. Calls of a chain's `block`, each with a block of samples and a list that is lent for
--- the places of its LOAD rises, with calls of `scan` between. Of the entries nothing is used but their contracts.
+-- Document 02, C-11: a recording that arrives in blocks. Calls of a chain's `block`, each with a block of samples and a list that is lent
+-- for the places of its LOAD rises, with calls of `scan` between. Of the entries nothing is used but their contracts.
 --     Sent, callsOf, samplesOf         a call of `block` or `scan`; the same calls with `play`; the samples of the blocks, joined
 --     Sends, NoneRefused               results of calls as the contracts allow them; no call among them was refused
 --     LongEnough, BlocksOnly           each list has room for its block's rises; there is no scan among the calls
@@ -74,7 +74,7 @@ samplesOf sent = blocksOf (callsOf sent)
 -- results of calls, in order, each as the contract of its entry allows it for the record that the call before handed back
 pub data Sends (n : ℕ) : Chain → List Sent → Chain → Type 0 where
   over : {ch : Chain} → Sends n ch [] ch
-  taken : {ch ch′ : Chain} {samples list : List ℕ} {sent : List Sent} (r : AfterBlock) (list′ : List ℕ)
+  called : {ch ch′ : Chain} {samples list : List ℕ} {sent : List Sent} (r : AfterBlock) (list′ : List ℕ)
       → Blocks n ch samples list r list′
       → Sends n (r .chain) sent ch′
       → Sends n ch (block samples list ∷ sent) ch′
@@ -86,7 +86,7 @@ pub data Sends (n : ℕ) : Chain → List Sent → Chain → Type 0 where
 -- no call was refused
 abbrev pub NoneRefused : {n : ℕ} {ch ch′ : Chain} {sent : List Sent} → Sends n ch sent ch′ → Type 0
 NoneRefused over = Unit {0}
-NoneRefused (taken r list′ contract next) = IsDone (risesTell (r .answer)) × NoneRefused next
+NoneRefused (called r list′ contract next) = IsDone (risesTell (r .answer)) × NoneRefused next
 NoneRefused (scanned r contract next) = IsDone (handedScan r .told) × NoneRefused next
 
 -- ---- cutting a recording
@@ -111,7 +111,7 @@ placesOf (Refused e) list = []
 -- those of all calls, the lengths of the blocks before added, joined; so many samples came before the first
 abbrev pub placesIn : {n : ℕ} {ch ch′ : Chain} {sent : List Sent} → ℕ → Sends n ch sent ch′ → List ℕ
 placesIn before over = []
-placesIn before (taken {samples = samples} r list′ contract next) = map (λ p. before + p) (placesOf (r .answer) list′) ++ placesIn (before + length samples) next
+placesIn before (called {samples = samples} r list′ contract next) = map (λ p. before + p) (placesOf (r .answer) list′) ++ placesIn (before + length samples) next
 placesIn before (scanned r contract next) = placesIn before next
 
 -- blocks, and one call over the whole: neither is refused, the record is the same and so are the places
@@ -139,10 +139,10 @@ CutLaw =
 
 -- ---- the exception
 
--- each call was accepted, or left the record and its list as they were
+-- each call of `block` was accepted, or left the record and its list as they were
 abbrev pub RefusedAlone : {n : ℕ} {ch ch′ : Chain} {sent : List Sent} → Sends n ch sent ch′ → Type 0
 RefusedAlone over = Unit {0}
-RefusedAlone (taken {ch = ch} {list = list} r list′ contract next) = (IsDone (risesTell (r .answer)) ⊎ ((r .chain ≡ ch) × (list′ ≡ list))) × RefusedAlone next
+RefusedAlone (called {ch = ch} {list = list} r list′ contract next) = (IsDone (risesTell (r .answer)) ⊎ ((r .chain ≡ ch) × (list′ ≡ list))) × RefusedAlone next
 RefusedAlone (scanned r contract next) = RefusedAlone next
 
 -- the samples of a call that was accepted
@@ -153,7 +153,7 @@ acceptedOf (Refused e) samples = []
 -- those of all accepted calls, joined
 abbrev pub acceptedIn : {n : ℕ} {ch ch′ : Chain} {sent : List Sent} → Sends n ch sent ch′ → List ℕ
 acceptedIn over = []
-acceptedIn (taken {samples = samples} r list′ contract next) = acceptedOf (r .answer) samples ++ acceptedIn next
+acceptedIn (called {samples = samples} r list′ contract next) = acceptedOf (r .answer) samples ++ acceptedIn next
 acceptedIn (scanned r contract next) = acceptedIn next
 
 -- any blocks and lists, any N and record: a refused block is refused alone, and the last record is the play of the accepted ones joined

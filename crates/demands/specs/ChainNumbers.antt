@@ -1,5 +1,5 @@
--- Document 02, C-11, for the library that C links: each refusal's "given exactly when" where a panel of CH452 chips is lent as 202 numbers, and
--- the tables of those entries. proofs/ExactNumbers.antt proves that each entry keeps to its table.
+-- Document 02, C-11, for the library that C links: each refusal's "given exactly when" where a panel of CH452 chips is lent as 202
+-- numbers, and the tables of those entries. proofs/ExactNumbers.antt proves that each entry keeps to its table.
 -- Assumes nothing.
 use mathlib.Core.Logic.{_⊎_}
 use mathlib.Core.List.{List, [], _∷_, _++_}

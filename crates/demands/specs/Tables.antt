@@ -1,7 +1,8 @@
 -- Document 01, "Refusal numbers": the table of each entry, its refusals in document 01's order: 3, 12, 9, then 4, 5, then words
--- from the first on (6, 7, 13; the place is named), then 8; samples and a scan's chip after 3 and 12, and a list's 8 after the samples. A table has the refusals
--- that the entry's arguments can give rise to. proofs/Exact.antt, ExactChain.antt, ExactWriter.antt and ExactLibrary.antt prove that each
--- entry keeps to its table; a text's table is in specs/Texts.antt, that of a tally's text in specs/Tallies.antt.
+-- from the first on (6, 7, 13; the place is named), then 8; samples and a scan's chip after 3 and 12, and a list's 8 after the samples.
+-- A table has the refusals that the entry's arguments can give rise to. proofs/Exact.antt, ExactChain.antt, ExactWriter.antt and
+-- ExactLibrary.antt prove that each entry keeps to its table; a text's table is in specs/Texts.antt, that of a tally's text in
+-- specs/Tallies.antt.
 -- Assumes nothing.
 use mathlib.Core.Logic.{_⊎_}
 use mathlib.Core.List.{List, [], _∷_, _++_}

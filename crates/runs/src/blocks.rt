@@ -20,9 +20,9 @@ pub fn run() {
     let low = three(1, idle, b"\x03\x07\x03\x07\x03");
     put(b"an empty block after it: ");
     let still = none(1, low, b"");
-    put(b"block 7, 3, 7 after that: ");
+    put(b"block 7, 3, 7 after the empty block: ");
     three(1, still, b"\x07\x03\x07");
-    put(b"block 7, 3, 7 after that, a list of 1: ");
+    put(b"block 7, 3, 7 after the empty block, a list of 1: ");
     one(1, still, b"\x07\x03\x07");
     put(b"an empty block for 9 chips: ");
     three(9, idle, b"");
@@ -81,7 +81,7 @@ fn rises(after: AfterBlock) {
     match answer {
         Rises::Count(count) => {
             io::print_decimal(1, count as u64);
-            put(b" rises");
+            put(b" in the list");
         }
         Rises::Refused(e) => {
             put(b"refused ");

@@ -29,7 +29,7 @@ use Rattle.chain.specs.Chain.{chipCount, checkedFrom, testedOf, played}
 use Rattle.chip.proofs.Held.{HeldChip}
 use Rattle.chain.proofs.Held.{AllHeld}
 use Rattle.chain.proofs.Tested.{count-high}
-use Rattle.zhaqsumir.specs.Panels.{chipFits, byteAt, chipOf, chipNumbers, fromChip, countIn, chipFitsIn, testedIn, chipIn, chainOf, rowNumbers, panelNumbers, panelBy, blockIn, BlocksNumbers}
+use Rattle.zhaqsumir.specs.Panels.{chipFits, byteAt, chipOf, recordNumbers, fromChip, countIn, chipFitsIn, testedIn, recordIn, chainOf, rowNumbers, chainNumbers, panelBy, blockIn, BlocksNumbers}
 use Rattle.zhaqsumir.proofs.ChainRows.{rows-suc}
 use Rattle.zhaqsumir.proofs.ChipNumbers.{places-front, numbers-front, chip-length, chip-fits, chip-back}
 use Rattle.zhaqsumir.proofs.Counts.{atPlaces}
@@ -60,13 +60,13 @@ module _ (ns : List ℕ) (size : length ns ≡ 202) (passed : testedIn ns ≡ do
   most-eight = count-high (countIn ns) (tests .0)
 
   -- the numbers of chip k
-  chip-front : (k : ℕ) → k < countIn ns → chipNumbers (getD (chainOf ns .chips) k resetChip) ≡ take 25 (drop (25 * k) (drop 2 ns))
+  chip-front : (k : ℕ) → k < countIn ns → recordNumbers (getD (chainOf ns .chips) k resetChip) ≡ take 25 (drop (25 * k) (drop 2 ns))
   unfolding chainOf
   chip-front k h =
       let few = most-eight in
       let room : 25 ≤ length (fromChip k ns) = omega (arith, length-drop (2 + 25 * k) ns) in
       let fits = is-true (chipFitsIn ns k) (at-below (chipFitsIn ns) (countIn ns) (and-right (leb (getD ns 1 0) 255) (below (chipFitsIn ns) (countIn ns)) (tests .1)) k h) in
-      ap chipNumbers (place-at (chipIn ns) 8 k resetChip (lt-of-lt-of-le h few) ∙ pick-yes _ _ (lt-ltb k (countIn ns) h))
+      ap recordNumbers (place-at (recordIn ns) 8 k resetChip (lt-of-lt-of-le h few) ∙ pick-yes _ _ (lt-ltb k (countIn ns) h))
       ∙ numbers-front (fromChip k ns) room fits
       ∙ ap (take 25) (from-first k ns)
 
@@ -83,14 +83,14 @@ module _ (ns : List ℕ) (size : length ns ≡ 202) (passed : testedIn ns ≡ do
       ∙ sym (take-add (25 * k) 25 (drop 2 ns))
       ∙ ap (λ m. take m (drop 2 ns)) more
 
-  pub numbers-back : laid (panelNumbers (countIn ns) (countIn ns) (chainOf ns)) ns ≡ ns
+  pub numbers-back : laid (chainNumbers (countIn ns) (countIn ns) (chainOf ns)) ns ≡ ns
   unfolding chainOf
   numbers-back =
       let few = most-eight in
       let n = countIn ns in
       let low = leb→le (getD ns 1 0) 255 (and-left (leb (getD ns 1 0) 255) (below (chipFitsIn ns) n) (tests .1)) in
       let levels : byteAt ns 1 ≡ getD ns 1 0 = mod-eq-of-lt (omega arith) in
-      let front : panelNumbers n n (chainOf ns) ≡ take (2 + 25 * n) ns = (λ i. n ∷ levels i ∷ row-front n (le-refl n) i) ∙ ap (λ xs. xs ++ take (25 * n) (drop 2 ns)) (places-front 2 ns (omega arith)) ∙ sym (take-add 2 (25 * n) ns) in
+      let front : chainNumbers n n (chainOf ns) ≡ take (2 + 25 * n) ns = (λ i. n ∷ levels i ∷ row-front n (le-refl n) i) ∙ ap (λ xs. xs ++ take (25 * n) (drop 2 ns)) (places-front 2 ns (omega arith)) ∙ sym (take-add 2 (25 * n) ns) in
       ap (λ w. laid w ns) front
       ∙ ap (λ m. take (2 + 25 * n) ns ++ drop m ns) (length-take-le (2 + 25 * n) ns (omega arith))
       ∙ take-append-drop (2 + 25 * n) ns
@@ -114,28 +114,28 @@ pub no-samples : (ns list : List ℕ) {answer ns′ list′ : List ℕ} → leng
 no-samples ns list size b = b .panel ∙ go (testedIn ns) refl
   where
     go : (t : Told (Unit {0})) → testedIn ns ≡ t
-        → panelBy (blockIn ns [] list .told) (panelNumbers (countIn ns) (countIn ns) (blockIn ns [] list .state)) ns ≡ ns
+        → panelBy (blockIn ns [] list .told) (chainNumbers (countIn ns) (countIn ns) (blockIn ns [] list .state)) ns ≡ ns
     go (done u) e =
         let state = state-once (testedIn ns) (chainOf ns) (blockOf (countIn ns) (chainOf ns) [] list) (none-played (countIn ns) (chainOf ns) list) in
-        panel-same (blockIn ns [] list .told) _ ns (ap (λ ch. laid (panelNumbers (countIn ns) (countIn ns) ch) ns) state ∙ numbers-back ns size e)
+        panel-same (blockIn ns [] list .told) _ ns (ap (λ ch. laid (chainNumbers (countIn ns) (countIn ns) ch) ns) state ∙ numbers-back ns size e)
     go (refused number place) e =
-        ap (λ t. panelBy (onceTested t (chainOf ns) (blockOf (countIn ns) (chainOf ns) [] list) .told) (panelNumbers (countIn ns) (countIn ns) (blockIn ns [] list .state)) ns) e
+        ap (λ t. panelBy (onceTested t (chainOf ns) (blockOf (countIn ns) (chainOf ns) [] list) .told) (chainNumbers (countIn ns) (countIn ns) (blockIn ns [] list .state)) ns) e
 
 -- ---- a chain to numbers and back
 
 -- what holds of a held record's numbers, whatever follows them, holds of the numbers of each
-row-at : (P : List ℕ → Chip → Type 0) → ((c : Chip) → HeldChip c → (rest : List ℕ) → P (chipNumbers c ++ rest) c)
+row-at : (P : List ℕ → Chip → Type 0) → ((c : Chip) → HeldChip c → (rest : List ℕ) → P (recordNumbers c ++ rest) c)
     → (n k : ℕ) (cs : List Chip) (rest : List ℕ) → k < n → k < length cs → AllHeld n cs
     → P (drop (25 * k) (rowNumbers n cs ++ rest)) (getD cs k resetChip)
 unfolding rowNumbers
 row-at P each zero k cs rest h l held = absurd (not-suc-le-zero h)
 row-at P each (suc n) k [] rest h l held = absurd (not-suc-le-zero l)
 row-at P each (suc n) zero (c ∷ cs) rest h l held =
-    subst (λ xs. P xs c) (sym (append-assoc (chipNumbers c) (rowNumbers n cs) rest)) (each c (held .0) (rowNumbers n cs ++ rest))
+    subst (λ xs. P xs c) (sym (append-assoc (recordNumbers c) (rowNumbers n cs) rest)) (each c (held .0) (rowNumbers n cs ++ rest))
 row-at P each (suc n) (suc k) (c ∷ cs) rest h l held =
     let tail = rowNumbers n cs ++ rest in
     let more : 25 * suc k ≡ 25 + 25 * k = omega arith in
-    let past = ap₂ drop more (append-assoc (chipNumbers c) (rowNumbers n cs) rest) ∙ sym (drop-drop (25 * k) 25 (chipNumbers c ++ tail)) ∙ ap (drop (25 * k)) (drop-at (chipNumbers c) tail 25 (chip-length c (held .0))) in
+    let past = ap₂ drop more (append-assoc (recordNumbers c) (rowNumbers n cs) rest) ∙ sym (drop-drop (25 * k) 25 (recordNumbers c ++ tail)) ∙ ap (drop (25 * k)) (drop-at (recordNumbers c) tail 25 (chip-length c (held .0))) in
     subst (λ xs. P xs (getD cs k resetChip)) (sym past) (row-at P each n k cs rest (le-of-suc-le-suc h) (le-of-suc-le-suc l) (held .1))
 
 pub rows-length : (n : ℕ) (cs : List Chip) → n ≤ length cs → AllHeld n cs → length (rowNumbers n cs) ≡ 25 * n
@@ -143,7 +143,7 @@ unfolding rowNumbers
 rows-length zero cs l held = refl
 rows-length (suc n) [] l held = absurd (not-suc-le-zero l)
 rows-length (suc n) (c ∷ cs) l held =
-    omega (arith, length-append (chipNumbers c) (rowNumbers n cs), chip-length c (held .0), rows-length n cs (le-of-suc-le-suc l) (held .1))
+    omega (arith, length-append (recordNumbers c) (rowNumbers n cs), chip-length c (held .0), rows-length n cs (le-of-suc-le-suc l) (held .1))
 
 -- a test that passes at each number below n
 below-each : (f : ℕ → Bool) (n : ℕ) → ((k : ℕ) → k < n → f k ≡ true) → below f n ≡ true
@@ -168,31 +168,31 @@ module _ (n many : ℕ) (ch : Chain) (ns : List ℕ) (counts : T (chipCount n)) 
     (held : AllHeld many (ch .chips)) where
   -- the panel after the numbers of so many records are put
   after : List ℕ
-  after = laid (panelNumbers n many ch) ns
+  after = laid (chainNumbers n many ch) ns
 
   -- what holds of a held record's numbers, whatever follows them, holds of those of each chip below N
-  chip-after : (P : List ℕ → Chip → Type 0) → ((c : Chip) → HeldChip c → (rest : List ℕ) → P (chipNumbers c ++ rest) c)
+  chip-after : (P : List ℕ → Chip → Type 0) → ((c : Chip) → HeldChip c → (rest : List ℕ) → P (recordNumbers c ++ rest) c)
       → (k : ℕ) → k < n → P (fromChip k after) (getD (ch .chips) k resetChip)
   unfolding after
   chip-after P each k h =
       let few = count-high n counts in
-      let rest = drop (length (panelNumbers n many ch)) ns in
+      let rest = drop (length (chainNumbers n many ch)) ns in
       subst (λ xs. P xs (getD (ch .chips) k resetChip)) (sym (from-first k after)) (row-at P each many k (ch .chips) rest (omega arith) (omega arith) held)
 
-  pub chain-back : Stands n ch (laid (panelNumbers n many ch) ns)
+  pub chain-back : Stands n ch (laid (chainNumbers n many ch) ns)
   unfolding after testedIn chainOf
   chain-back =
       let fits : (k : ℕ) → k < n → chipFitsIn after k ≡ true = λ k h. chip-after (λ xs c. chipFits xs ≡ true) chip-fits k h in
-      let same : (k : ℕ) → k < n → chipIn after k ≡ getD (ch .chips) k resetChip = λ k h. pick-yes _ _ (lt-ltb k n h) ∙ chip-after (λ xs c. chipOf xs ≡ c) chip-back k h in
+      let same : (k : ℕ) → k < n → recordIn after k ≡ getD (ch .chips) k resetChip = λ k h. pick-yes _ _ (lt-ltb k n h) ∙ chip-after (λ xs c. chipOf xs ≡ c) chip-back k h in
       record {
         count = refl;
         passed = pick-yes _ _ (is-true (chipCount n) counts) ∙ pick-yes _ _ (ap₂ _&&_ (le-leb (ch .levels) 255 (le-of-suc-le-suc low)) (below-each (chipFitsIn after) n fits));
-        chips = ap (λ m. take n (atPlaces (chipIn after) m)) (sym size) ∙ first-places (chipIn after) n (ch .chips) resetChip (λ k h l. same k h);
+        chips = ap (λ m. take n (atPlaces (recordIn after) m)) (sym size) ∙ first-places (recordIn after) n (ch .chips) resetChip (λ k h l. same k h);
         levels = mod-eq-of-lt low;
       }
 
-  pub rest-stays : many ≤ 8 → drop (2 + 25 * many) (laid (panelNumbers n many ch) ns) ≡ drop (2 + 25 * many) ns
+  pub rest-stays : many ≤ 8 → drop (2 + 25 * many) (laid (chainNumbers n many ch) ns) ≡ drop (2 + 25 * many) ns
   rest-stays few =
       let row = rows-length many (ch .chips) (omega arith) held in
-      let all : length (panelNumbers n many ch) ≡ 2 + 25 * many = omega arith in
-      drop-at (panelNumbers n many ch) (drop (length (panelNumbers n many ch)) ns) (2 + 25 * many) all ∙ ap (λ m. drop m ns) all
+      let all : length (chainNumbers n many ch) ≡ 2 + 25 * many = omega arith in
+      drop-at (chainNumbers n many ch) (drop (length (chainNumbers n many ch)) ns) (2 + 25 * many) all ∙ ap (λ m. drop m ns) all

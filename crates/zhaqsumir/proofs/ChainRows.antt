@@ -18,7 +18,7 @@ use Rattle.base.specs.Lent.{laid, placed}
 use Rattle.base.proofs.Lent.{placed-again}
 use Rattle.base.proofs.Stores.{two-put}
 use Rattle.chip.specs.declared.Chip.{Chip}
-use Rattle.zhaqsumir.specs.Panels.{chipNumbers, rowNumbers}
+use Rattle.zhaqsumir.specs.Panels.{recordNumbers, rowNumbers}
 
 pub part-rest : (m : ℕ) (ns : List ℕ) → take (length ns - m) (drop m ns) ≡ drop m ns
 part-rest m ns = take-all (length ns - m) (drop m ns) (omega (arith, length-drop m ns))
@@ -29,14 +29,14 @@ paste-placed out at piece k whole =
     ∙ ap₂ (λ p r. take at out ++ (p ++ r)) (take-all k piece (omega arith)) (sym (drop-drop k at out) ∙ ap (λ n. drop n (drop at out)) (sym whole))
 
 -- by the place as a definition recurses
-pub rows-suc : (k : ℕ) (cs : List Chip) (d : Chip) → k < length cs → rowNumbers (suc k) cs ≡ rowNumbers k cs ++ chipNumbers (getD cs k d)
+pub rows-suc : (k : ℕ) (cs : List Chip) (d : Chip) → k < length cs → rowNumbers (suc k) cs ≡ rowNumbers k cs ++ recordNumbers (getD cs k d)
 unfolding rowNumbers
 rows-suc k [] d h = absurd (not-suc-le-zero h)
-rows-suc zero (c ∷ cs) d h = append-nil (chipNumbers c)
+rows-suc zero (c ∷ cs) d h = append-nil (recordNumbers c)
 rows-suc (suc k) (c ∷ cs) d h =
-    ap (λ r. chipNumbers c ++ r) (rows-suc k cs d (le-of-suc-le-suc h)) ∙ sym (append-assoc (chipNumbers c) (rowNumbers k cs) (chipNumbers (getD cs k d)))
+    ap (λ r. recordNumbers c ++ r) (rows-suc k cs d (le-of-suc-le-suc h)) ∙ sym (append-assoc (recordNumbers c) (rowNumbers k cs) (recordNumbers (getD cs k d)))
 
-pub rows-more : (k : ℕ) (cs : List Chip) (d : Chip) → k < length cs → rowNumbers (k + 1) cs ≡ rowNumbers k cs ++ chipNumbers (getD cs k d)
+pub rows-more : (k : ℕ) (cs : List Chip) (d : Chip) → k < length cs → rowNumbers (k + 1) cs ≡ rowNumbers k cs ++ recordNumbers (getD cs k d)
 rows-more k cs d h = ap (λ n. rowNumbers n cs) (add-one k) ∙ rows-suc k cs d h
 
 -- all there are
@@ -45,7 +45,7 @@ unfolding rowNumbers
 rows-all zero [] h = refl
 rows-all (suc k) [] h = refl
 rows-all zero (c ∷ cs) h = absurd (not-suc-le-zero h)
-rows-all (suc k) (c ∷ cs) h = ap (λ r. chipNumbers c ++ r) (rows-all k cs (le-of-suc-le-suc h))
+rows-all (suc k) (c ∷ cs) h = ap (λ r. recordNumbers c ++ r) (rows-all k cs (le-of-suc-le-suc h))
 
 pub rows-past : (k count : ℕ) (cs : List Chip) → length cs ≤ k → k ≤ count → rowNumbers k cs ≡ rowNumbers count cs
 rows-past k count cs h l = rows-all k cs h ∙ sym (rows-all count cs (omega arith))

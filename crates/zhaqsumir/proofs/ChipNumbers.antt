@@ -21,7 +21,7 @@ use Rattle.base.proofs.Lists.{below-at}
 use Rattle.chip.specs.declared.Chip.{Chip}
 use Rattle.chip.specs.Record.{withDigits}
 use Rattle.chip.proofs.Held.{HeldChip}
-use Rattle.zhaqsumir.specs.Panels.{chipMosts, chipFits, byteAt, bitAt, chipOf, chipNumbers}
+use Rattle.zhaqsumir.specs.Panels.{chipMosts, chipFits, byteAt, bitAt, chipOf, recordNumbers}
 use Rattle.zhaqsumir.proofs.Counts.{atPlaces, all-places}
 use Rattle.zhaqsumir.proofs.Fitting.{under, number-bit, bit-most, digit-most}
 
@@ -32,8 +32,8 @@ places-front zero xs h = refl
 places-front (suc n) [] h = absurd (not-suc-le-zero h)
 places-front (suc n) (x ∷ xs) h = ap (λ ys. x ∷ ys) (places-front n xs (le-of-suc-le-suc h))
 
-pub numbers-front : (xs : List ℕ) → 25 ≤ length xs → chipFits xs ≡ true → chipNumbers (chipOf xs) ≡ take 25 xs
-unfolding chipFits chipOf chipNumbers
+pub numbers-front : (xs : List ℕ) → 25 ≤ length xs → chipFits xs ≡ true → recordNumbers (chipOf xs) ≡ take 25 xs
+unfolding chipFits chipOf recordNumbers
 numbers-front xs h fits =
     let byte : (j : ℕ) → T (ltb j 25) → T (ltb (getD chipMosts j 0) 256) → byteAt xs j ≡ getD xs j 0 = λ j s t. mod-eq-of-lt (under chipMosts xs 25 fits j s t) in
     let flag : (j : ℕ) → T (ltb j 25) → T (ltb (getD chipMosts j 0) 2) → bitValue (bitAt xs j) ≡ getD xs j 0 = λ j s t. number-bit (getD xs j 0) (under chipMosts xs 25 fits j s t) in
@@ -56,15 +56,15 @@ byte-most : {n : ℕ} → n < 256 → leb n 255 ≡ true
 byte-most {n} h = le-leb n 255 (le-of-suc-le-suc h)
 
 module _ (c : Chip) (h : HeldChip c) where
-  pub chip-length : length (chipNumbers c) ≡ 25
-  unfolding chipNumbers
-  chip-length = by-digits (λ x. length (chipNumbers x) ≡ 25) c (h .eight) refl
+  pub chip-length : length (recordNumbers c) ≡ 25
+  unfolding recordNumbers
+  chip-length = by-digits (λ x. length (recordNumbers x) ≡ 25) c (h .eight) refl
 
-  pub chip-fits : (rest : List ℕ) → chipFits (chipNumbers c ++ rest) ≡ true
-  unfolding chipFits chipNumbers
+  pub chip-fits : (rest : List ℕ) → chipFits (recordNumbers c ++ rest) ≡ true
+  unfolding chipFits recordNumbers
   chip-fits rest =
       let digit : (k : ℕ) → leb (getD (c .digits) k 0) 255 ≡ true = λ k. digit-most (c .digits) k (h .digits) in
-      by-digits (λ x. chipFits (chipNumbers x ++ rest) ≡ true) c (h .eight) (λ i.
+      by-digits (λ x. chipFits (recordNumbers x ++ rest) ≡ true) c (h .eight) (λ i.
       byte-most (h .last) i && (bit-most (c .keys .interrupt) i && (byte-most (h .key) i
       && (digit 7 i && (digit 6 i && (digit 5 i && (digit 4 i && (digit 3 i && (digit 2 i && (digit 1 i && (digit 0 i
       && (bit-most (c .settings .sleeping) i && (byte-most (h .custom) i && (byte-most (h .blink) i && (byte-most (h .limit) i
@@ -73,11 +73,11 @@ module _ (c : Chip) (h : HeldChip c) where
       && (byte-most (h .left) i && (byte-most (h .code) i && (bit-most (c .line .latch) i
       && (le-leb (c .line .register) 65535 (le-of-suc-le-suc (h .register)) i && true)))))))))))))))))))))))))
 
-  pub chip-back : (rest : List ℕ) → chipOf (chipNumbers c ++ rest) ≡ c
-  unfolding chipOf chipNumbers
+  pub chip-back : (rest : List ℕ) → chipOf (recordNumbers c ++ rest) ≡ c
+  unfolding chipOf recordNumbers
   chip-back rest =
       let digit : (k : ℕ) → getD (c .digits) k 0 < 256 = λ k. below-at 256 (c .digits) k (omega arith) (h .digits) in
-      by-digits (λ x. chipOf (chipNumbers x ++ rest) ≡ x) c (h .eight) (λ i.
+      by-digits (λ x. chipOf (recordNumbers x ++ rest) ≡ x) c (h .eight) (λ i.
       record {
         line = record {
           register = mod-eq-of-lt (h .register) i;

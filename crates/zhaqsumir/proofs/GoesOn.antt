@@ -34,7 +34,7 @@ use Rattle.chain.proofs.Held.{AllHeld, played-held, set-held, played-length}
 use Rattle.chain.proofs.Laws.{checked-below, played-rest, played-valid}
 use Rattle.chain.proofs.Passed.{start-done}
 use Rattle.chain.proofs.Tested.{tested-done, count-high}
-use Rattle.zhaqsumir.specs.Panels.{fromChip, countIn, testedIn, chipIn, chainOf, panelNumbers, panelBy, blockIn, scannedIn, StartsNumbers, BlocksNumbers, ScansNumbers}
+use Rattle.zhaqsumir.specs.Panels.{fromChip, countIn, testedIn, recordIn, chainOf, chainNumbers, panelBy, blockIn, scannedIn, StartsNumbers, BlocksNumbers, ScansNumbers}
 use Rattle.zhaqsumir.proofs.ChainPanels.{rows-length, Stands, chain-back}
 use Rattle.zhaqsumir.proofs.ChipNumbers.{numbers-held}
 use Rattle.zhaqsumir.proofs.Counts.{atPlaces}
@@ -49,13 +49,13 @@ places-held f (suc n) (suc m) each = (each 0, places-held (λ k. f (suc k)) n m 
 pub chain-held : (ns : List ℕ) (n : ℕ) → AllHeld n (chainOf ns .chips)
 unfolding chainOf
 chain-held ns n =
-    places-held (chipIn ns) n 8 (λ k. pick-cases HeldChip (ltb k (countIn ns)) (λ e. numbers-held (fromChip k ns)) (λ e. reset-held))
+    places-held (recordIn ns) n 8 (λ k. pick-cases HeldChip (ltb k (countIn ns)) (λ e. numbers-held (fromChip k ns)) (λ e. reset-held))
 
 -- ---- a start, and a scan that is taken
 
 pub start-stands : (n : ℕ) (ns : List ℕ) {answer ns′ : List ℕ} → T (chipCount n) → StartsNumbers n ns answer ns′ → Stands n startChain ns′
 start-stands n ns counts s =
-    let put = s .panel ∙ ap (λ (o : Outcome Chain (Unit {0})). panelBy (o .told) (panelNumbers n most (o .state)) ns) (start-done n counts) in
+    let put = s .panel ∙ ap (λ (o : Outcome Chain (Unit {0})). panelBy (o .told) (chainNumbers n most (o .state)) ns) (start-done n counts) in
     subst (Stands n startChain) (sym put)
     (chain-back n most startChain ns counts (count-high n counts) refl (omega arith) (places-held (λ k. resetChip) most most (λ k. reset-held)))
 
@@ -81,7 +81,7 @@ scan-stands ns k bytes d s =
     let valid = once-done (testedOf n ch) ch (pick (ltb k n) took (handsBack ch 2 0)) d₁ in
     let d₂ : IsDone (pick (ltb k n) took (handsBack ch 2 0) .told) = subst (λ (o : Outcome Chain Recording). IsDone (o .told)) (valid .1) d₁ in
     let is = passed .1 ∙ valid .1 ∙ pick-done (ltb k n) took ch 2 d₂ in
-    let put = s .panel ∙ ap (λ (o : Outcome Chain Recording). panelBy (o .told) (panelNumbers n n (o .state)) ns) is in
+    let put = s .panel ∙ ap (λ (o : Outcome Chain Recording). panelBy (o .told) (chainNumbers n n (o .state)) ns) is in
     subst (Stands n after) (sym put)
     (chain-back n n after ns (tested-done n ch (valid .0) .0) (le-refl n) (length-set (ch .chips) k (scanned bytes (chipAt k ch))) (mod-lt (getD ns 1 0) (omega arith))
     (set-held n k (ch .chips) (scanned bytes) (scanned-held bytes) (chain-held ns n)))
@@ -89,7 +89,7 @@ scan-stands ns k bytes d s =
 -- ---- a block's numbers
 
 -- the numbers of the chips below N, after any samples
-pub numbers-length : (ns ss : List ℕ) → T (chipCount (countIn ns)) → length (panelNumbers (countIn ns) (countIn ns) (played (countIn ns) ss (chainOf ns))) ≡ 2 + 25 * countIn ns
+pub numbers-length : (ns ss : List ℕ) → T (chipCount (countIn ns)) → length (chainNumbers (countIn ns) (countIn ns) (played (countIn ns) ss (chainOf ns))) ≡ 2 + 25 * countIn ns
 unfolding chainOf
 numbers-length ns ss counts =
     let n = countIn ns in
@@ -132,8 +132,8 @@ module _ (ns ss list : List ℕ) (t : Taken ns ss list) where
   abbrev after : Chain
   after = played (countIn ns) ss (chainOf ns)
 
-  pub panel-after : {answer ns′ list′ : List ℕ} → BlocksNumbers ns ss list answer ns′ list′ → ns′ ≡ laid (panelNumbers (countIn ns) (countIn ns) after) ns
-  panel-after b = b .panel ∙ ap (λ (o : Outcome Chain ℕ). panelBy (o .told) (panelNumbers (countIn ns) (countIn ns) (o .state)) ns) (t .is)
+  pub panel-after : {answer ns′ list′ : List ℕ} → BlocksNumbers ns ss list answer ns′ list′ → ns′ ≡ laid (chainNumbers (countIn ns) (countIn ns) after) ns
+  panel-after b = b .panel ∙ ap (λ (o : Outcome Chain ℕ). panelBy (o .told) (chainNumbers (countIn ns) (countIn ns) (o .state)) ns) (t .is)
 
   pub counted : T (chipCount (countIn ns))
   counted = tested-done (countIn ns) (chainOf ns) (t .valid) .0
@@ -169,7 +169,7 @@ places-from f g (suc n) (suc m) each = places-from (λ k. f (suc k)) (λ k. g (s
 resets-from : (ns ms : List ℕ) → countIn ns ≡ countIn ms → drop (countIn ms) (chainOf ns .chips) ≡ drop (countIn ms) (chainOf ms .chips)
 unfolding chainOf
 resets-from ns ms e =
-    places-from (chipIn ns) (chipIn ms) (countIn ms) 8 (λ k h. pick-no _ _ (le-ltb k (countIn ns) (omega arith)) ∙ sym (pick-no _ _ (le-ltb k (countIn ms) h)))
+    places-from (recordIn ns) (recordIn ms) (countIn ms) 8 (λ k h. pick-no _ _ (le-ltb k (countIn ns) (omega arith)) ∙ sym (pick-no _ _ (le-ltb k (countIn ms) h)))
 
 module _ (ns ss list : List ℕ) (t : Taken ns ss list) {answer ns′ list′ : List ℕ} (b : BlocksNumbers ns ss list answer ns′ list′) where
   pub chain-next : chainOf ns′ ≡ played (countIn ns) ss (chainOf ns)
@@ -184,7 +184,7 @@ module _ (ns ss list : List ℕ) (t : Taken ns ss list) {answer ns′ list′ : 
   pub next-length : length ns ≡ 202 → length ns′ ≡ 202
   next-length size =
       let few = count-high (countIn ns) (counted ns ss list t) in
-      let w = panelNumbers (countIn ns) (countIn ns) (played (countIn ns) ss (chainOf ns)) in
+      let w = chainNumbers (countIn ns) (countIn ns) (played (countIn ns) ss (chainOf ns)) in
       let long = numbers-length ns ss (counted ns ss list t) in
       ap length (panel-after ns ss list t b) ∙ omega (arith, length-append w (drop (length w) ns), length-drop (length w) ns)
 

@@ -18,7 +18,7 @@ use Rattle.base.specs.Refusals.{done, refused}
 use Rattle.base.proofs.Picks.{pick-yes, pick-no}
 use Rattle.base.proofs.Tests.{by-order}
 use Rattle.chain.specs.Chain.{chipCount}
-use Rattle.zhaqsumir.specs.Panels.{chipFits, chipOf, fromChip, countIn, chipFitsIn, testedIn, chipIn, chainOf}
+use Rattle.zhaqsumir.specs.Panels.{chipFits, chipOf, fromChip, countIn, chipFitsIn, testedIn, recordIn, chainOf}
 use Rattle.zhaqsumir.proofs.Counts.{atPlaces}
 
 places-same : {A : Type 0} (f g : ℕ → A) (n : ℕ) → ((k : ℕ) → k < n → f k ≡ g k) → atPlaces f n ≡ atPlaces g n
@@ -50,7 +50,7 @@ module _ (ns ms : List ℕ) (agree : take (2 + 25 * countIn ns) ns ≡ take (2 +
   count-same : countIn ns ≡ countIn ms
   count-same = at 0 (omega arith)
 
-  each-same : (k : ℕ) → chipIn ns k ≡ chipIn ms k
+  each-same : (k : ℕ) → recordIn ns k ≡ recordIn ms k
   each-same k =
       let same = count-same in
       by-order (countIn ns) k

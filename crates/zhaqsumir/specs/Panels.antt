@@ -78,8 +78,8 @@ unfoldable pub chipOf : List ℕ → Chip
 chipOf ns = record { line = lineOf ns; settings = settingsOf ns; digits = digitsOf ns; keys = keysOf ns }
 
 -- the numbers of a record
-unfoldable pub chipNumbers : Chip → List ℕ
-chipNumbers c =
+unfoldable pub recordNumbers : Chip → List ℕ
+recordNumbers c =
     c .line .register
     ∷ bitValue (c .line .latch)
     ∷ c .line .readout .code
@@ -119,14 +119,14 @@ testedIn ns =
     (refused 3 0)
 
 -- chip k; from N on a reset chip, whose numbers are not looked at
-abbrev pub chipIn : List ℕ → ℕ → Chip
-chipIn ns k = pick (ltb k (countIn ns)) (chipOf (fromChip k ns)) resetChip
+abbrev pub recordIn : List ℕ → ℕ → Chip
+recordIn ns k = pick (ltb k (countIn ns)) (chipOf (fromChip k ns)) resetChip
 
 -- the chain that the numbers stand for
 unfoldable pub chainOf : List ℕ → Chain
 chainOf ns =
     record {
-      chips = chipIn ns 0 ∷ chipIn ns 1 ∷ chipIn ns 2 ∷ chipIn ns 3 ∷ chipIn ns 4 ∷ chipIn ns 5 ∷ chipIn ns 6 ∷ chipIn ns 7 ∷ [];
+      chips = recordIn ns 0 ∷ recordIn ns 1 ∷ recordIn ns 2 ∷ recordIn ns 3 ∷ recordIn ns 4 ∷ recordIn ns 5 ∷ recordIn ns 6 ∷ recordIn ns 7 ∷ [];
       levels = byteAt ns 1;
     }
 
@@ -134,11 +134,11 @@ chainOf ns =
 unfoldable pub rowNumbers : ℕ → List Chip → List ℕ
 rowNumbers zero cs = []
 rowNumbers (suc n) [] = []
-rowNumbers (suc n) (c ∷ cs) = chipNumbers c ++ rowNumbers n cs
+rowNumbers (suc n) (c ∷ cs) = recordNumbers c ++ rowNumbers n cs
 
 -- N, the levels, and those
-abbrev pub panelNumbers : ℕ → ℕ → Chain → List ℕ
-panelNumbers n count ch = n ∷ ch .levels ∷ rowNumbers count (ch .chips)
+abbrev pub chainNumbers : ℕ → ℕ → Chain → List ℕ
+chainNumbers n count ch = n ∷ ch .levels ∷ rowNumbers count (ch .chips)
 
 -- a panel's 202 numbers after an entry, where its first numbers become these; as they were where it refuses
 abbrev pub panelBy : {A : Type 0} → Told A → List ℕ → List ℕ → List ℕ
@@ -150,7 +150,7 @@ panelBy (refused number place) first ns = ns
 -- what `zhaqsumir_start` does, where `ns` are the numbers lent: its answer, and the panel's numbers
 pub record StartsNumbers (n : ℕ) (ns : List ℕ) (answer ns′ : List ℕ) : Type 0 where
   pub numbers : answer ≡ numberIn (startedOf n .told) ∷ placeIn (startedOf n .told) ∷ []
-  pub panel : ns′ ≡ panelBy (startedOf n .told) (panelNumbers n most (startedOf n .state)) ns
+  pub panel : ns′ ≡ panelBy (startedOf n .told) (chainNumbers n most (startedOf n .state)) ns
 
 -- ---- block: number, place, how many LOAD rises; their places in a list of their own
 
@@ -161,7 +161,7 @@ blockIn ns ss list = onceTested (testedIn ns) (chainOf ns) (blockOf (countIn ns)
 -- what `zhaqsumir_block` does, where `ns` are the panel's numbers before it: its answer, the panel's numbers, and the list
 pub record BlocksNumbers (ns ss list : List ℕ) (answer ns′ list′ : List ℕ) : Type 0 where
   pub numbers : answer ≡ alone (blockIn ns ss list .told)
-  pub panel : ns′ ≡ panelBy (blockIn ns ss list .told) (panelNumbers (countIn ns) (countIn ns) (blockIn ns ss list .state)) ns
+  pub panel : ns′ ≡ panelBy (blockIn ns ss list .told) (chainNumbers (countIn ns) (countIn ns) (blockIn ns ss list .state)) ns
   pub places : list′ ≡ listBy (blockIn ns ss list .told) (risesIn (chainOf ns) ss) list
 
 -- ---- scan: number, place, what was recorded, its code
@@ -192,7 +192,7 @@ scannedIn ns k bytes = onceTested (testedIn ns) (chainOf ns) (scannedOf (countIn
 -- what `zhaqsumir_scan` does, where `ns` are the panel's numbers before it: its answer, and the panel's numbers
 pub record ScansNumbers (ns : List ℕ) (k : ℕ) (bytes : List ℕ) (answer ns′ : List ℕ) : Type 0 where
   pub numbers : answer ≡ scanBy (scannedIn ns k bytes .told)
-  pub panel : ns′ ≡ panelBy (scannedIn ns k bytes .told) (panelNumbers (countIn ns) (countIn ns) (scannedIn ns k bytes .state)) ns
+  pub panel : ns′ ≡ panelBy (scannedIn ns k bytes .told) (chainNumbers (countIn ns) (countIn ns) (scannedIn ns k bytes .state)) ns
 
 -- ---- lit: number, place, eight bytes of segments
 

@@ -51,7 +51,7 @@ pub(crate) fn tested(numbers: &[u64; PANEL]) -> Verdict
 // Chip k; from N on a reset chip.
 fn chip_in(numbers: &[u64], k: usize) -> Chip
     requires { ⌜ 2 + 25 * k ≤ length (now numbers) ⌝ }
-    ensures { λ r. ⌜ r ≡ P.chipIn (now (numbers .entry)) k ⌝ }
+    ensures { λ r. ⌜ r ≡ P.recordIn (now (numbers .entry)) k ⌝ }
 {
     let n = numbers[0] as usize;
     if k >= n {
@@ -96,7 +96,7 @@ fn put(numbers: &mut [u64], k: usize, chip: [u64; CHIP])
 // Puts N, the levels and the numbers of the first records.
 pub(crate) fn put_all(numbers: &mut [u64], n: usize, count: usize, chain: Chain)
     requires { ⌜ 202 ≤ length (now numbers) ⌝ }
-    ensures { λ _. ⌜ now (numbers .exit) ≡ laid (P.panelNumbers n count chain) (now (numbers .entry)) ⌝ }
+    ensures { λ _. ⌜ now (numbers .exit) ≡ laid (P.chainNumbers n count chain) (now (numbers .entry)) ⌝ }
 {
     let chips = chain.chips;
     numbers[0] = n as u64;

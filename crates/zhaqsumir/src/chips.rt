@@ -182,7 +182,7 @@ pub(crate) fn wide(bytes: [u8; 8]) -> [u64; 8]
 
 // The numbers of a record.
 pub(crate) fn numbers_of(chip: Chip) -> [u64; CHIP]
-    ensures { λ r. ⌜ r ≡ P.chipNumbers chip ⌝ }
+    ensures { λ r. ⌜ r ≡ P.recordNumbers chip ⌝ }
 {
     let line = chip.line;
     let readout = line.readout;

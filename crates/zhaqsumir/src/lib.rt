@@ -1,6 +1,6 @@
 // The till's own library: the proved functions for C to link. Each takes numbers and slices, and answers by numbers in a lent array: a
 // refusal's number and place, 0 and 0 where there is none, then the answer, zeros where it is refused. A replay counts the bytes that it
-// wrote either way; a tally and the panels of CH452s and of a CH450 are lent as numbers, and go on.
+// wrote either way; a tally and the panel of a CH450 are lent as numbers, that of CH452 chips as a struct of numbers, and go on.
 // include/zhaqsumir.h is their header.
 mod chains;
 mod chips;

@@ -52,7 +52,7 @@ pub(crate) fn start(n: usize, numbers: &mut [u64; PANEL]) -> [u64; 2]
 // A block that was played, or refused; the numbers lent are those of the panel before it.
 fn after_block(numbers: &mut [u64; PANEL], n: usize, after: AfterBlock) -> [u64; 3]
     ensures { λ r. ⌜ r ≡ N.alone (risesTell (after .answer)) ⌝ }
-    ensures { λ r. ⌜ now (numbers .exit) ≡ P.panelBy (risesTell (after .answer)) (P.panelNumbers n n (after .chain)) (now (numbers .entry)) ⌝ }
+    ensures { λ r. ⌜ now (numbers .exit) ≡ P.panelBy (risesTell (after .answer)) (P.chainNumbers n n (after .chain)) (now (numbers .entry)) ⌝ }
 {
     let chain = after.chain;
     let answer = after.answer;
@@ -112,7 +112,7 @@ fn code(recorded: Recorded) -> u64
 // A scan that was taken, or refused; the numbers lent are those of the panel before it.
 fn after_scan(numbers: &mut [u64; PANEL], n: usize, scanned: Scanned) -> [u64; 4]
     ensures { λ r. ⌜ r ≡ P.scanBy (scanTells (scanned .answer)) ⌝ }
-    ensures { λ r. ⌜ now (numbers .exit) ≡ P.panelBy (scanTells (scanned .answer)) (P.panelNumbers n n (scanned .chain)) (now (numbers .entry)) ⌝ }
+    ensures { λ r. ⌜ now (numbers .exit) ≡ P.panelBy (scanTells (scanned .answer)) (P.chainNumbers n n (scanned .chain)) (now (numbers .entry)) ⌝ }
 {
     let chain = scanned.chain;
     let answer = scanned.answer;

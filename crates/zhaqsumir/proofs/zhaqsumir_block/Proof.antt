@@ -1,7 +1,13 @@
--- `zhaqsumir::zhaqsumir_block` meets its contract: a walk of its MIR, by hand. The panel's borrow is opened, the struct is copied out whole and passed to `panels::block` with the three further references, what that returns is stored whole over the old struct, and the borrow is closed at it. The code names no field of the struct, and the proof names one only in `Said`, as the contract does.
--- All that the proof knows of `panels::block` is that it meets its contract. What `P.BlocksNumbers` says is not read: the callee's fact is the caller's, at the record returned.
--- The callee has `samples`, `rises` and `answer` at their own lifetimes, shares and ghost names: the two `&mut` are given up for good (`gave-slice`, `gave-ref`), no lifetime is made, and nothing has to come back. What the callee says of the last values, under those names, is what is said of them at exit.
--- The struct's laws come from the module that `rattle check` makes of it: how a record's machine value is spelled, that its relation tells that value, and that the value has the struct's MIR type.
+-- `zhaqsumir::zhaqsumir_block` meets its contract: a walk of its MIR, by hand. The panel's borrow is opened, the struct is copied out whole
+-- and passed to `panels::block` with the three further references, what that returns is stored whole over the old struct, and the borrow
+-- is closed at it. The code names no field of the struct, and the proof names one only in `Said`, as the contract does.
+-- All that the proof knows of `panels::block` is that it meets its contract. What `P.BlocksNumbers` says is not read: the callee's fact is
+-- the caller's, at the record returned.
+-- The callee has `samples`, `rises` and `answer` at their own lifetimes, shares and ghost names: the two `&mut` are given up for good
+-- (`gave-slice`, `gave-ref`), no lifetime is made, and nothing has to come back. What the callee says of the last values, under those
+-- names, is what is said of them at exit.
+-- The struct's laws come from the module that the check makes of it: how a record's machine value is spelled, that its relation tells
+-- that value, and that the value has the struct's MIR type.
 -- Assumes nothing.
 use mathlib.Core.Path.{_≡_, refl}
 use Prim.Native.Nat.{ℕ}

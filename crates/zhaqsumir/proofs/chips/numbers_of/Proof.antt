@@ -9,7 +9,7 @@ use Rattle.zhaqsumir.proofs.chips.numbers_of.Statement.{statement}
 use Rattle.zhaqsumir.proofs.chips.numbers_of.Tie as tie
 
 returns : tie.Need-returns
-unfolding Rattle.zhaqsumir.specs.Panels.chipNumbers
+unfolding Rattle.zhaqsumir.specs.Panels.recordNumbers
 returns c =
     let flags = c .before .before .before .before .before .before .before in
     let w = flags .before .before .before .before .before .before .before .before .before .before .before .wide in

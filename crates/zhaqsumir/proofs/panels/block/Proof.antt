@@ -8,7 +8,7 @@ use Rattle.base.proofs.Refusals.{by-done, by-refusal}
 use Rattle.chain.specs.declared.Chain.{Chain}
 use Rattle.chain.specs.Blocks.{blockOf, risesIn, listBy, listOf}
 use Rattle.zhaqsumir.specs.Numbers.{alone}
-use Rattle.zhaqsumir.specs.Panels.{countIn, chainOf, panelNumbers, panelBy}
+use Rattle.zhaqsumir.specs.Panels.{countIn, chainOf, chainNumbers, panelBy}
 use borrow.Author.Needs.{needs}
 use Rattle.zhaqsumir.proofs.panels.block.Statement.{statement}
 use Rattle.zhaqsumir.proofs.panels.block.Tie as tie
@@ -23,7 +23,7 @@ returns c =
     let said = by-refusal (chainOf ns) (blockOf n (chainOf ns) ss list) (c .before .before .before .before .before .before .tested .ensures) (c .before .before .before .before .test .given .1) in
     record {
       numbers = (λ i. c .before .before .number .ensures i ∷ c .before .place .ensures i ∷ 0 ∷ []) ∙ sym (ap (λ (o : Outcome Chain ℕ). alone (o .told)) said);
-      panel = sym (ap (λ (o : Outcome Chain ℕ). panelBy (o .told) (panelNumbers n n (o .state)) ns) said);
+      panel = sym (ap (λ (o : Outcome Chain ℕ). panelBy (o .told) (chainNumbers n n (o .state)) ns) said);
       places = sym (ap (λ (o : Outcome Chain ℕ). listBy (o .told) (risesIn (chainOf ns) ss) list) said);
     }
 
@@ -41,7 +41,7 @@ returns-2 c =
     let after = c .after-block .ensures in
     record {
       numbers = after .0 ∙ ap (λ (o : Outcome Chain ℕ). alone (o .told)) whole;
-      panel = after .1 ∙ ap (λ (o : Outcome Chain ℕ). panelBy (o .told) (panelNumbers n n (o .state)) ns) whole;
+      panel = after .1 ∙ ap (λ (o : Outcome Chain ℕ). panelBy (o .told) (chainNumbers n n (o .state)) ns) whole;
       places = played .places ∙ ap (λ (ch : Chain). listOf n ch ss list) made ∙ sym (ap (λ (o : Outcome Chain ℕ). listBy (o .told) (risesIn (chainOf ns) ss) list) said);
     }
 

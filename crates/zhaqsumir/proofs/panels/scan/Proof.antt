@@ -7,7 +7,7 @@ use Rattle.base.proofs.Refusals.{by-done, by-refusal}
 use Rattle.chip.specs.Scans.{Recording}
 use Rattle.chain.specs.declared.Chain.{Chain}
 use Rattle.chain.specs.Entries.{scannedOf}
-use Rattle.zhaqsumir.specs.Panels.{countIn, chainOf, scanBy, panelNumbers, panelBy}
+use Rattle.zhaqsumir.specs.Panels.{countIn, chainOf, scanBy, chainNumbers, panelBy}
 use borrow.Author.Needs.{needs}
 use Rattle.zhaqsumir.proofs.panels.scan.Statement.{statement}
 use Rattle.zhaqsumir.proofs.panels.scan.Tie as tie
@@ -19,7 +19,7 @@ returns c =
     let said = by-refusal (chainOf ns) (scannedOf (countIn ns) (chainOf ns) (a .k) (a .contacts)) (c .before .before .before .before .before .tested .ensures) (c .before .before .before .test .given .1) in
     record {
       numbers = (λ i. c .before .number .ensures i ∷ c .place .ensures i ∷ 0 ∷ 0 ∷ []) ∙ sym (ap (λ (o : Outcome Chain Recording). scanBy (o .told)) said);
-      panel = sym (ap (λ (o : Outcome Chain Recording). panelBy (o .told) (panelNumbers (countIn ns) (countIn ns) (o .state)) ns) said);
+      panel = sym (ap (λ (o : Outcome Chain Recording). panelBy (o .told) (chainNumbers (countIn ns) (countIn ns) (o .state)) ns) said);
     }
 
 returns-2 : tie.Need-returns-2
@@ -32,7 +32,7 @@ returns-2 c =
     let after = c .after-scan .ensures in
     record {
       numbers = after .0 ∙ ap (λ (o : Outcome Chain Recording). scanBy (o .told)) whole;
-      panel = after .1 ∙ ap (λ (o : Outcome Chain Recording). panelBy (o .told) (panelNumbers n n (o .state)) ns) whole;
+      panel = after .1 ∙ ap (λ (o : Outcome Chain Recording). panelBy (o .told) (chainNumbers n n (o .state)) ns) whole;
     }
 
 pub scan-spec : {M : Type 1} → statement M

@@ -7,7 +7,7 @@ use Rattle.base.specs.Refusals.{Told, verdictTells}
 use Rattle.chain.specs.Chain.{most}
 use Rattle.chain.specs.Entries.{startedOf}
 use Rattle.zhaqsumir.specs.Numbers.{numberIn, placeIn}
-use Rattle.zhaqsumir.specs.Panels.{panelNumbers, panelBy}
+use Rattle.zhaqsumir.specs.Panels.{chainNumbers, panelBy}
 use borrow.Author.Needs.{needs}
 use Rattle.zhaqsumir.proofs.panels.start.Statement.{statement}
 use Rattle.zhaqsumir.proofs.panels.start.Tie as tie
@@ -20,8 +20,8 @@ returns c =
     let told = sym (ap verdictTells (c .before .before .enum-told .given .1)) ∙ ap (λ o. o .told) said in
     record {
       numbers = ap (λ (t : Told (Unit {0})). numberIn t ∷ placeIn t ∷ []) told;
-      panel = c .put-all .ensures ∙ ap (λ o. laid (panelNumbers (a .n) most (o .state)) ns) said
-          ∙ ap (λ (t : Told (Unit {0})). panelBy t (panelNumbers (a .n) most (startedOf (a .n) .state)) ns) told;
+      panel = c .put-all .ensures ∙ ap (λ o. laid (chainNumbers (a .n) most (o .state)) ns) said
+          ∙ ap (λ (t : Told (Unit {0})). panelBy t (chainNumbers (a .n) most (startedOf (a .n) .state)) ns) told;
     }
 
 returns-2 : tie.Need-returns-2
@@ -30,7 +30,7 @@ returns-2 c =
     let told = sym (ap verdictTells (c .before .before .before .answer .given .1)) ∙ ap (λ o. o .told) (c .before .before .before .before .before .before .start .ensures) in
     record {
       numbers = (λ i. c .before .number .ensures i ∷ c .place .ensures i ∷ []) ∙ ap (λ (t : Told (Unit {0})). numberIn t ∷ placeIn t ∷ []) told;
-      panel = ap (λ (t : Told (Unit {0})). panelBy t (panelNumbers (a .n) most (startedOf (a .n) .state)) (a .numbers .now)) told;
+      panel = ap (λ (t : Told (Unit {0})). panelBy t (chainNumbers (a .n) most (startedOf (a .n) .state)) (a .numbers .now)) told;
     }
 
 pub start-spec : {M : Type 1} → statement M
