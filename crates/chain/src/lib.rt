@@ -1,8 +1,8 @@
 // A chain of N chips, N from 1 to 8: start it, play a block of samples, scan a chip, look at it, and find the next LOAD rise.
-// The entries are `start`, `host_sees`, `play::play`, `one::scan`, `one::apply`, `one::segments_lit` and `finder::next_rise`. Each
-// tests everything first; where it refuses, it hands back the record as it was, or zeros where it answers no record. Records from
-// N on are never changed. `play::to_next_rise`, `one::chip_at`, `one::scan_chip` and those of the module `tests` are inner functions,
-// which other crates call: they test no record and refuse nothing.
+// The entries are `start`, `host_sees`, `play::play`, `blocks::block`, `one::scan`, `one::apply`, `one::segments_lit` and
+// `finder::next_rise`. Each tests everything first; where it refuses, it hands back the record as it was, or zeros where it answers no
+// record. Records from N on are never changed. `play::to_next_rise`, `one::chip_at`, `one::scan_chip` and those of the module `checks` are
+// inner functions, which other crates call: they test no record and refuse nothing.
 use base::Refusal;
 use base::Verdict;
 use chip::Chip;

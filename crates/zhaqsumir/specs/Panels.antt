@@ -49,7 +49,7 @@ byteAt ns j = getD ns j 0 % 256
 abbrev pub bitAt : List ℕ → ℕ → Bool
 bitAt ns j = eqb (getD ns j 0) 1
 
--- the record that the numbers at the front of a list stand for, by parts. LineParts: numbers 0 to 3
+-- the record that the numbers at the front of a list stand for, by parts; line parts: numbers 0 to 3
 abbrev pub lineOf : List ℕ → LineParts
 lineOf ns = record { register = getD ns 0 0 % 65536; latch = bitAt ns 1; readout = record { code = byteAt ns 2; left = byteAt ns 3 } }
 
