@@ -47,6 +47,7 @@ abbrev pub listBy : Told ℕ → List ℕ → List ℕ → List ℕ
 listBy (done count) places list = laid places list
 listBy (refused number place) places list = list
 
+-- the list after a block, whatever its outcome
 abbrev pub listOf : ℕ → Chain → List ℕ → List ℕ → List ℕ
 listOf n ch ss list = listBy (blockOf n ch ss list .told) (risesIn ch ss) list
 
