@@ -5,12 +5,14 @@
 
     replay explain         each line of `replay`, with its meaning in words beside it
     screen picture         each line of `screen`, with the chip's digits drawn below it
+    screen explain         each line of `screen`, with the segments that are lit
     tally explain          what the lines of `tally` say, in two tables with decimal numbers
     ch450replay explain    each line of `ch450replay`, with its meaning in words beside it
     ch450screen explain    each line of `ch450screen`, with the segments that are lit
     ch450screen picture    each line of `ch450screen`, with the digits drawn below it
 
-The lines come on standard input. REFUSED is what to say of a refusal line.
+The lines come on standard input. REFUSED is what to say of a refusal line. (`watch`, whose lines are those of `replay` and `screen`, and
+times beside lines are shown by watch.py, by the same functions.)
 """
 import signal
 import struct
@@ -110,8 +112,24 @@ def explained(lines, refused):
                 text += "; the unread code %02XH of %s is lost" % (last_code[chip], key_of(last_code[chip]))
             last_code[chip] = code
         else:
-            text = refused
+            text = refused(line)
         yield "%-8s    %s" % (line, text)
+
+
+# ---- what is lit ----
+
+
+def lit(digits, first):
+    """The segments that are lit, by their letters, a dot for the point; digits that are dark are left out."""
+    letters = ["".join(name for bit, name in enumerate("ABCDEFG.") if byte >> bit & 1) for byte in digits]
+    return ", ".join("DIG%d %s" % (digit, names) for digit, names in enumerate(letters, first) if names) or "dark"
+
+
+def screen_explained(lines, refused):
+    """The lines of `screen` and their meanings."""
+    for line in lines:
+        frame = bytes.fromhex(line)
+        yield "%s    %s" % (line, "chip %d: %s" % (frame[1], lit(frame[2:], 0)) if frame[0] == 0x30 else refused(line))
 
 
 # ---- --explain of ch450 ----
@@ -139,12 +157,6 @@ def ch450_key(code):
     return "code %02XH read: key %02XH (%s) %s" % (code, address, place_of(address), state)
 
 
-def ch450_lit(digits):
-    """The segments that are lit, by their letters, a dot for the point; digits that are dark are left out."""
-    letters = ["".join(name for bit, name in enumerate("ABCDEFG.") if byte >> bit & 1) for byte in digits]
-    return ", ".join("DIG%d %s" % (digit, lit) for digit, lit in enumerate(letters, 2) if lit) or "dark"
-
-
 def ch450_explained(lines, refused):
     """The lines of `ch450replay` or `ch450screen` and their meanings."""
     for line in lines:
@@ -154,9 +166,9 @@ def ch450_explained(lines, refused):
         elif frame[0] == 0x43:
             text = ch450_key(frame[1])
         elif frame[0] == 0x44:
-            text = ch450_lit(frame[1:])
+            text = lit(frame[1:], 2)
         else:
-            text = refused
+            text = refused(line)
         yield "%-8s    %s" % (line, text)
 
 
@@ -191,14 +203,15 @@ def counted(lines, refused):
     frames = [bytes.fromhex(line) for line in lines]
     chips = [chip_row(frame[1], *struct.unpack(">4Q", frame[2:])) for frame in frames if frame[0] == 0x13]
     codes = [code_row(frame[1], *struct.unpack(">Q", frame[2:])) for frame in frames if frame[0] == 0x14]
+    last = refused(None)
     if chips:
         yield from table(*CHIPS, chips)
-        yield "left unread: stood unread where a capture ended" + (", or before the refused line" if refused else "")
+        yield "left unread: stood unread where a capture ended" + (", or before the refused line" if last else "")
     if codes:
         yield ""
         yield from table(*CODES, codes)
-    if refused:
-        yield from [""] * bool(chips) + [refused]
+    if last:
+        yield from [""] * bool(chips) + [last]
 
 
 # ---- --picture ----
@@ -218,6 +231,10 @@ def drawn_row(row, segments):
     return "".join(mark if bit is None or segments >> bit & 1 else " " for bit, mark in row)
 
 
+# each of the three rows, for every byte of segments
+CELLS = [[drawn_row(row, segments) for segments in range(256)] for row in ROWS]
+
+
 def drawn(lines, refused):
     """The lines of `screen` or `ch450screen`, and below each the digits, DIG7 leftmost: the eight of its chip, or the six of a CH450,
     which has no DIG0 and DIG1."""
@@ -230,17 +247,18 @@ def drawn(lines, refused):
             yield line
             digits = list(enumerate(frame[1:], 2))[::-1]
         else:
-            yield "%s    %s" % (line, refused)
+            yield "%s    %s" % (line, refused(line))
             continue
-        for row in ROWS:
-            yield (MARGIN + GAP.join(drawn_row(row, segments) for _, segments in digits)).rstrip()
-        yield MARGIN + GAP.join("DIG%d" % digit for digit, _ in digits)
+        for row in CELLS:
+            yield (MARGIN + GAP.join([row[segments] for _, segments in digits])).rstrip()
+        yield MARGIN + GAP.join(["DIG%d" % digit for digit, _ in digits])
         yield ""
 
 
 SHOWN = {
     ("replay", "explain"): explained,
     ("screen", "picture"): drawn,
+    ("screen", "explain"): screen_explained,
     ("tally", "explain"): counted,
     ("ch450replay", "explain"): ch450_explained,
     ("ch450screen", "explain"): ch450_explained,
@@ -250,7 +268,7 @@ SHOWN = {
 
 def main():
     signal.signal(signal.SIGPIPE, signal.SIG_DFL)
-    lines = list(SHOWN[sys.argv[1], sys.argv[2]](sys.stdin.read().split(), sys.argv[3]))
+    lines = list(SHOWN[sys.argv[1], sys.argv[2]](sys.stdin.read().split(), lambda line: sys.argv[3]))
     try:
         sys.stdout.write("".join(line + "\n" for line in lines))
         sys.stdout.close()

@@ -1,7 +1,7 @@
 """The text of one CH450, on two wires, and what can be seen on the way: no command at all, a display that was on and digits loaded before
 the recording, and codes that the reads got."""
-from .refusal import joined
-from .text import Text
+from .refusal import Refused, joined
+from .text import LONGEST, Text
 
 SCL, SDA = 1, 2             # a sample is SCL + 2 SDA
 RISES = 19                  # of SCL, from a start to the stop at which a command is obeyed
@@ -38,6 +38,16 @@ class TwoWires(Text):
     def first(self):
         """40 01, the key's code, and DIG2 to DIG7."""
         return "4001%02X%s" % (self.key, (self.digits or bytes(6)).hex().upper())
+
+    def timed(self, known):
+        """Nothing shows times beside what a text of two wires gives: none are kept."""
+
+    def keep(self, sample, place, time, *at):
+        """No program takes a text of two wires that is longer."""
+        super().keep(sample, place, time, *at)
+        if self.length() > LONGEST:
+            most = format(LONGEST, ",")
+            raise Refused("the recording is too long: the text up to here is over %s bytes, more than one text holds" % most, place(*at))
 
     def edge(self, sample):
         """Takes a bit at an SCL rise; SDA moving while SCL stays high is a start or a stop."""

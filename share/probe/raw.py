@@ -2,9 +2,10 @@
 from .refusal import Refused
 
 
-def read(source, text, width, bits, others):
+def read(source, text, width, bits, others, rate):
     """Reads a recording. `width` is the bytes of a sample, or None where the user didn't say; `bits` has the number of each wire's
-    bit. The other bits of a sample may be anything where `others` is true, or else must be 0."""
+    bit. The other bits of a sample may be anything where `others` is true, or else must be 0. `rate` is the samplerate, or None."""
+    text.timed(rate is not None)
     size = width or 1
     offset = 0
     rest = b""
@@ -15,7 +16,7 @@ def read(source, text, width, bits, others):
         block = rest + block
         whole = len(block) - len(block) % size
         rest = block[whole:]
-        take(block[:whole], text, size, bits, others, offset)
+        take(block[:whole], text, size, bits, others, offset, rate)
         offset += whole
     if rest:
         raise Refused("the recording ends inside a sample: its length isn't a multiple of %d" % size, offset)
@@ -23,30 +24,35 @@ def read(source, text, width, bits, others):
         raise Refused("every second byte is 00H, as where a sample takes two bytes: say --width 2, or --width 1 if it takes one")
 
 
-def take(block, text, width, bits, others, offset):
+def take(block, text, width, bits, others, offset, rate):
     """The samples of a block."""
     lanes = [block[lane::width] for lane in range(width)]
-    if not others:
-        foreign(block, lanes, bits, offset, text.options("-bit"))
+    wrong = None if others else foreign(block, lanes, bits, offset, text.options("-bit"))
+    if wrong:
+        lanes = [lane[:(wrong.place - offset) // width] for lane in lanes]
     samples = 0
     for wire, bit in bits.items():
         levels = lanes[bit // 8].translate(bytes(wire * (value >> bit % 8 & 1) for value in range(256)))
         samples |= int.from_bytes(levels, "little")
-    text.take_all(samples.to_bytes(len(lanes[0]), "little"), lambda at: offset + at * width)
+    first = offset // width
+    text.take_all(samples.to_bytes(len(lanes[0]), "little"), lambda at: offset + at * width, lambda at: rate.text(first + at))
+    if wrong:
+        raise wrong
 
 
 def foreign(block, lanes, bits, offset, options):
-    """Refuses the first sample with a bit that is no wire's; `options` are those that say which are."""
+    """What to say against the first sample with a bit that is no wire's, or None; `options` are those that say which are."""
     places = []
     for lane, column in enumerate(lanes):
         used = sum(1 << bit % 8 for bit in bits.values() if bit // 8 == lane)
         wrong = column.translate(None, bytes(value for value in range(256) if not value & ~used))
         if wrong:
             places.append(column.index(wrong[0]))
-    if places:
-        width = len(lanes)
-        at = min(places) * width
-        sample = "%0*XH" % (2 * width, int.from_bytes(block[at:at + width], "little"))
-        if width == 1:
-            raise Refused("%s is no sample; samples are 00H to %02XH" % (sample, sum(bits)), offset + at)
-        raise Refused("%s has a bit that is no wire's; %s say which are" % (sample, options), offset + at)
+    if not places:
+        return None
+    width = len(lanes)
+    at = min(places) * width
+    sample = "%0*XH" % (2 * width, int.from_bytes(block[at:at + width], "little"))
+    if width == 1:
+        return Refused("%s is no sample; samples are 00H to %02XH" % (sample, sum(bits)), offset + at)
+    return Refused("%s has a bit that is no wire's; %s say which are" % (sample, options), offset + at)

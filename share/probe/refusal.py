@@ -1,4 +1,5 @@
-"""What can be said against a recording, and how a part of it is shown in a message."""
+"""What can be said against a recording, and how it is said."""
+import sys
 
 
 class Refused(Exception):
@@ -15,6 +16,38 @@ class Unreadable(Refused):
 
 class BadUsage(Exception):
     """What was typed can't be right."""
+
+
+class Unwritten(Exception):
+    """The output can't be written."""
+
+
+class WrongTimes(Exception):
+    """A file of times can't be read, or isn't for these samples."""
+
+
+def why_not(error, name, places):
+    """What an exception says of the recording that has the name; `places` names the places of each format."""
+    if isinstance(error, BadUsage):
+        return "%s\ntry 'zhaqsumir --help'" % error
+    if isinstance(error, (Unwritten, WrongTimes)):
+        return str(error)
+    if isinstance(error, Unreadable):
+        return "%s can't be read: %s" % (name, error.why)
+    if isinstance(error, Refused):
+        return "%s%s: %s" % (name, "" if error.place is None else ", %s %d" % (places[error.form], error.place), error.why)
+    if isinstance(error, MemoryError):
+        return "%s can't be read: there is not enough memory" % name
+    return "%s can't be read: a fault of import itself (%s)" % (name, shown(repr(error)))      # nothing of the kind is known
+
+
+def say(line):
+    """To standard error, where that can be written."""
+    try:
+        sys.stderr.write("zhaqsumir: %s\n" % line)
+        sys.stderr.flush()
+    except (AttributeError, OSError):
+        sys.stderr = None
 
 
 def shown(part, most=40):

@@ -7,6 +7,7 @@ import zlib
 from . import raw
 from .refusal import Refused, listed, shown
 from .source import BLOCK, Progress
+from .times import rate_of
 
 VERSIONS = (b"1", b"2")
 DAMAGED = "the sigrok session is damaged or cut off"
@@ -45,7 +46,8 @@ def read(source, text, names):
             parts = parts_of(device.get("capturefile", "logic-1"), files)
             width, bits = places(device, text, names)
             source.progress = Progress(sum(files[part].file_size for part in parts))
-            raw.read(Samples(archive, parts, source.progress), text, width, bits, True)
+            rate = rate_of(device.get("samplerate", ""))
+            raw.read(Samples(archive, parts, source.progress), text, width, bits, True, rate)
     except (zipfile.BadZipFile, EOFError, zlib.error, NotImplementedError, RuntimeError, OSError, ValueError):
         raise Refused(DAMAGED) from None
 

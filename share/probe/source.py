@@ -16,16 +16,25 @@ DAMAGED = "the gzip file is damaged or cut off"
 
 
 class Source:
-    """The bytes of a recording. `name` is for messages; `head` are the first bytes."""
+    """The bytes of a recording. `name` is for messages; `head` are the first bytes. Where the recording is live, what has come is handed
+    on at once; `enough` says then whether the first bytes tell what it is, and `idle` is called before more is waited for."""
 
-    def __init__(self, name, stream, progress):
-        self.name, self.stream, self.progress = name, stream, progress
+    def __init__(self, name, stream, progress, enough=None):
+        self.name, self.stream, self.progress, self.enough = name, stream, progress, enough
+        self.idle = None
         self.head = self.ahead = self.more(4096)
+        while enough and not enough(self.head):
+            data = self.more(4096)
+            if not data:
+                break
+            self.head = self.ahead = self.head + data
 
     def more(self, count):
-        """The stream's next bytes, fewer at its end."""
+        """The stream's next bytes, fewer at its end, or where it is live."""
+        if self.idle:
+            self.idle()
         try:
-            data = self.stream.read(count)
+            data = self.stream.read1(count) if self.enough else self.stream.read(count)
         except gzip.BadGzipFile:
             raise Refused(DAMAGED) from None
         except OSError as error:
@@ -38,11 +47,11 @@ class Source:
     def read(self, count):
         """The next bytes, fewer at the end. (gzip's reader calls this too.)"""
         data, self.ahead = self.ahead[:count], self.ahead[count:]
-        return data if len(data) == count else data + self.more(count - len(data))
+        return data if len(data) == count or data and self.enough else data + self.more(count - len(data))
 
     def unpacked(self):
         """The bytes that gzip packed. How far they are read is counted in the packed ones."""
-        return Source(self.name, gzip.GzipFile(fileobj=self), Progress(None))
+        return Source(self.name, gzip.GzipFile(fileobj=self), Progress(None), self.enough)
 
     def seekable(self):
         """A file of the same bytes in which one can go back and forth."""
@@ -84,27 +93,35 @@ class Source:
             yield rest
 
 
-def opened(file):
-    """The recording in a file, or - for standard input."""
+def stream_of(file):
+    """A file, or - for standard input, opened to be read."""
     try:
         if file == "-":
             if sys.stdin is None:
                 raise Unreadable("it is closed")
-            stream = sys.stdin.buffer
-        else:
-            stream = open(file, "rb")
-        status = os.fstat(stream.fileno())
+            return sys.stdin.buffer
+        if os.path.isdir(file):
+            raise Unreadable("it is a folder")
+        return open(file, "rb")
     except FileNotFoundError:
         raise Unreadable("no such file") from None
-    except IsADirectoryError:
-        raise Unreadable("it is a folder") from None
     except PermissionError:
         raise Unreadable("no permission") from None
     except OSError as error:
         raise Unreadable(error.strerror or "an error of the system") from None
     except ValueError:
         raise Unreadable("no such file") from None
-    return Source(named(file), stream, Progress(status.st_size if stat.S_ISREG(status.st_mode) else 0))
+
+
+def opened(file, enough=None):
+    """The recording in a file, or - for standard input."""
+    stream = stream_of(file)
+    try:
+        status = os.fstat(stream.fileno())
+    except OSError as error:
+        raise Unreadable(error.strerror or "an error of the system") from None
+    size = status.st_size if stat.S_ISREG(status.st_mode) else 0
+    return Source(named(file), stream, Progress(None if enough else size), enough)
 
 
 def named(file):

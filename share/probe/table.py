@@ -4,6 +4,7 @@ import re
 from itertools import islice
 from operator import le
 
+from . import times
 from .refusal import Refused, listed, shown
 
 SEPARATORS = (b",", b";", b"\t")
@@ -11,16 +12,21 @@ LEVELS = {b"0", b"1"}
 UNDEFINED = (b"", b"x", b"z")
 # names of a first column that holds times; libsigrok may name it by its unit, as it does the others, `logic`
 TIMES = re.compile(rb"(?i)time.*|t|sec|seconds?|samples?")
-UNITS = re.compile(rb"[munp]?s")
+PARTS = ("milli", "micro", "nano", "pico", "femto")
+UNITS = dict(times.UNITS, **{name + "seconds": 3 * place for place, name in enumerate(PARTS, 1)})      # each with its decimal places
 MOMENT = re.compile(rb"\d{4}-\d\d-\d\d[T ]\d\d:\d\d:\d\d[0-9.,:+Z-]*")     # a date and a time of day
 LEVEL_OF = bytes.maketrans(b"01", b"\0\1")
 
 
 def fields_of(line, separator):
-    """The fields of a line. A field may stand in double quotes; a quote that isn't closed in its line is refused (with no place)."""
+    """The fields of a line. A field may stand in double quotes; a quote that isn't closed in its line is refused (with no place), and so
+    is a carriage return that doesn't end it."""
+    line = line[:-1] if line.endswith(b"\r") else line
+    if b"\r" in line:
+        raise Refused("a carriage return stands inside a line")
     if b'"' not in line:
         return [field.strip() for field in line.split(separator)]
-    pattern = re.compile(rb' *(?:"((?:[^"]|"")*)"[ \r]*|([^"%s]*))(%s|\Z)' % (separator, separator))
+    pattern = re.compile(rb' *(?:"((?:[^"]|"")*)" *|([^"%s]*))(%s|\Z)' % (separator, separator))
     fields = []
     at = 0
     while True:
@@ -45,6 +51,10 @@ class Table:
         self.timed = False          # whether the first column holds times
         self.time = None
         self.rows = 0
+        self.rate = None            # the samplerate in a remark of libsigrok
+        self.unit = 0               # of the times: the decimal places of a second
+        self.step = None            # libsigrok's times: the first of them, which is that of one sample
+        self.clock = None           # gives the time of a row, from its number, its first field and its line
 
     # ---- the header ----
 
@@ -53,6 +63,8 @@ class Table:
         if not line.strip() or line[:1] in (b";", b"#") or re.fullmatch(rb"META samplerate: \d+\s*", line):
             remark = re.fullmatch(rb"; *Channels \(\d+/\d+\): *(.*?)\s*", line)
             self.channels = [name.strip() for name in remark[1].split(b",")] if remark else self.channels
+            remark = re.fullmatch(rb"; *Samplerate: *(.*?)\s*", line)
+            self.rate = times.rate_of(remark[1].decode("latin-1")) if remark else self.rate
             return
         choices = []
         for separator in SEPARATORS:
@@ -73,8 +85,11 @@ class Table:
         if not named and all(fields[column] in LEVELS for column in columns.values()):    # there is no header
             self.row(fields)
         else:
-            times = TIMES.fullmatch(fields[0]) or b"logic" in fields and UNITS.fullmatch(fields[0])
-            self.timed = bool(times) and 0 not in columns.values()
+            name = fields[0].decode("latin-1")
+            of_time = TIMES.fullmatch(fields[0]) or b"logic" in fields and name in UNITS
+            self.timed = bool(of_time) and 0 not in columns.values()
+            within = re.search(r"[\[(]([a-z]+)[\])]", name)
+            self.unit = UNITS.get(within[1] if within else name, None if name.lower().startswith("sample") else 0)
 
     def by_header(self, fields):
         """For each wire the number of its column, where the header has all their names, each once; else None."""
@@ -125,6 +140,8 @@ class Table:
         if not block.endswith(b"\n") or separator != b";" and (block[:1] == b";" or b"\n;" in block):
             return False
         block = block.replace(b"\r\n", b"\n").replace(separator + b" ", separator)
+        if b"\r" in block:
+            return False
         column = self.quoted(block) if b'"' in block else self.unquoted(block)
         if column is None:
             return False
@@ -135,10 +152,13 @@ class Table:
             if not {"0", "1"}.issuperset(levels):
                 return False
             samples += wire * int.from_bytes("".join(levels).encode().translate(LEVEL_OF), "little")
-        if self.timed and not self.moments(column(0)):
+        moments = column(0) if self.timed else None
+        if moments and not self.moments(moments):
             return False
-        first = self.line + 1
-        self.text.take_all(samples.to_bytes(count, "little"), lambda at: first + at)
+        self.begin(moments[0] if moments else "")
+        line, row = self.line + 1, self.rows
+        self.text.take_all(samples.to_bytes(count, "little"), lambda at: line + at,
+                           lambda at: self.clock(row + at, moments and moments[at], line + at))
         self.line += count
         self.rows += count
         return True
@@ -163,20 +183,20 @@ class Table:
             return None
         return lambda place: [row[place] for row in rows]
 
-    def moments(self, times):
+    def moments(self, moments):
         """Whether the times of many rows don't go back."""
         try:
-            times = list(map(float, times))
+            moments = list(map(float, moments))
         except ValueError:
-            if set(map(len, times)) != {len(times[0])} or not all(map(MOMENT.fullmatch, map(str.encode, times))):
+            if set(map(len, moments)) != {len(moments[0])} or not all(map(MOMENT.fullmatch, map(str.encode, moments))):
                 return False
-            times = list(map(str.encode, times))
-        if self.time is not None and (type(self.time) is not type(times[0]) or not self.time <= times[0]):
+            moments = list(map(str.encode, moments))
+        if self.time is not None and (type(self.time) is not type(moments[0]) or not self.time <= moments[0]):
             return False
-        if isinstance(self.time, bytes) and len(self.time) != len(times[0]) or not all(map(le, times, islice(times, 1, None))):
+        if isinstance(self.time, bytes) and len(self.time) != len(moments[0]) or not all(map(le, moments, islice(moments, 1, None))):
             return False
-        self.time = times[-1]
-        return times[0] == times[0]
+        self.time = moments[-1]
+        return moments[0] == moments[0]
 
     def row(self, fields):
         """One row."""
@@ -185,7 +205,9 @@ class Table:
         if self.timed:
             self.moment(fields[0])
         sample = sum(wire * self.level(fields[column], self.names[wire]) for wire, column in self.columns.items())
-        self.text.take(sample, lambda: self.line)
+        moment = fields[0].decode("latin-1")
+        self.begin(moment)
+        self.text.take(sample, lambda: self.line, lambda: self.clock(self.rows, moment, self.line))
         self.rows += 1
 
     def level(self, field, name):
@@ -210,6 +232,36 @@ class Table:
             if time < self.time:
                 raise Refused("the rows aren't in the order of time: '%s' comes after a later one" % shown(field), self.line)
         self.time = time
+
+    # ---- times ----
+
+    def begin(self, moment):
+        """Before the first row: how the times are told. libsigrok's own, where it says the samplerate, are whole numbers of a unit that
+        isn't always named, each too late by one sample, and rounded: what they count is samples."""
+        if self.rows:
+            return
+        if self.rate:
+            self.step = int(moment) if self.timed and re.fullmatch("[0-9]{1,18}", moment) else 0
+            self.clock = self.of_step if self.step else lambda row, moment, line: self.rate.text(row)
+        elif self.timed and self.unit is not None and not MOMENT.fullmatch(moment.encode("latin-1")):
+            self.clock = self.of_column
+        self.text.timed(self.clock is not None)
+
+    def of_step(self, row, moment, line):
+        """The time by libsigrok's own, which counts samples from 1."""
+        number, rest = divmod(int(moment), self.step) if re.fullmatch("[0-9]{1,18}", moment) else (0, 1)
+        if rest:
+            raise Refused("the time '%s' is no multiple of the first one" % shown(moment), line)
+        return self.rate.text(number - 1)
+
+    def of_column(self, row, moment, line):
+        """The time as it is written."""
+        text = times.seconds(moment if self.separator == b"," else moment.replace(",", "."), self.unit)
+        if text is None:
+            raise Refused("'%s' is no time" % shown(moment), line)
+        return text
+
+    # ---- all of it ----
 
     def take(self, block):
         """The lines of a block, one by one."""

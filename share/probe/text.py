@@ -1,8 +1,10 @@
-"""The text that a recording's samples make. What differs from one kind of panel to another stands in chain.py and ch450.py."""
-from .refusal import Refused, joined
+"""The text or the stream that a recording's samples make. What differs from one kind of panel to another stands in chain.py and
+ch450.py."""
+from .refusal import BadUsage, joined
 
-LONGEST = 65536             # bytes of one text
+LONGEST = 65536             # bytes of a text that `replay` and `ch450` take
 IN_A_LINE = 32              # samples
+AT_ONCE = 2048 * IN_A_LINE  # samples that are handed on together, at most
 
 ANY = bytes([0] + [1] * 255)
 
@@ -20,11 +22,21 @@ class Text:
         edge()      looks at a sample that is kept; `level` still is the one before it
         remarks()   what is to be said of the recording, in lines
         hint()      the end of the message that a wire is missing, if there is more to say
+
+    What is kept is handed on to `out`, a function of the bytes of the text or stream, the samples in them, and their times, or None where
+    there are none or they aren't wanted.
     """
+
+    stream = False              # whether it is a raw stream, and no text
 
     def __init__(self):
         self.level = sum(self.wires.values())
-        self.kept = bytearray()
+        self.kept = bytearray()         # what isn't handed on yet
+        self.times = None               # of these samples
+        self.count = 0                  # of those handed on
+        self.out = None
+        self.wants_times = False
+        self.needs_times = None         # the options that need them
         self.watched_alone = bytes(level & self.watched for level in range(256))
 
     @classmethod
@@ -36,14 +48,20 @@ class Text:
         """What else the recording may be, by the names that it has."""
         return ""
 
-    def take(self, sample, place):
-        """One sample."""
+    def timed(self, known):
+        """A reader says, before its first sample, whether it knows the times."""
+        if not known and self.needs_times:
+            raise BadUsage("%s: the recording has no times; of raw samples --rate tells them" % self.needs_times)
+        self.times = [] if known and self.wants_times else None
+
+    def take(self, sample, place, time):
+        """One sample. `place` and `time` are functions: both are looked for where they are needed."""
         if (sample ^ self.level) & self.watched:
-            self.keep(sample, place)
+            self.keep(sample, place, time)
         self.level = sample
 
-    def take_all(self, samples, place):
-        """Many samples, each a byte. `place` gives the place of one in the recording, from its number here."""
+    def take_all(self, samples, place, time):
+        """Many samples, each a byte. `place` and `time` give the place of one in the recording and its time, from its number here."""
         if not samples:
             return
         watched = samples.translate(self.watched_alone)
@@ -53,19 +71,48 @@ class Text:
         at = edges.find(1)
         while at >= 0:
             self.level = samples[at - 1] if at else self.level
-            self.keep(samples[at], lambda: place(at))
+            self.keep(samples[at], place, time, at)
             at = edges.find(1, at + 1)
         self.level = samples[-1]
 
-    def keep(self, sample, place):
-        """A sample with an edge. `place` is a function: places are looked for where they are said."""
+    def keep(self, sample, place, time, *at):
+        """A sample with an edge, and its number, where `place` and `time` want one."""
+        if self.times is not None:
+            self.times.append(time(*at))
         self.kept.append(sample)
-        if len(self.kept) * 2 + -(-len(self.kept) // IN_A_LINE) * 3 + len(self.first()) + 1 > LONGEST:
-            most = format(LONGEST, ",")
-            raise Refused("the recording is too long: the text up to here is over %s bytes, more than one text holds" % most, place())
         self.edge(sample)
+        if len(self.kept) >= AT_ONCE:
+            self.hand_on()
 
-    def lines(self):
-        """The text: its first line, then lines of up to 32 samples."""
-        parts = [self.kept[at:at + IN_A_LINE] for at in range(0, len(self.kept), IN_A_LINE)]
-        return "".join("%s\n" % line for line in [self.first()] + [self.mark + part.hex().upper() for part in parts])
+    # ---- what is made of them ----
+
+    def begin(self):
+        """The text's first line, or the first bytes of the stream."""
+        first = self.first()
+        self.out(bytes.fromhex(first) if self.stream else first.encode() + b"\n", b"", None)
+
+    def hand_on(self, end=False):
+        """What is kept, to `out`: of a text whole lines, but for the last."""
+        count = len(self.kept)
+        if not self.stream and not end:
+            count -= count % IN_A_LINE
+        samples = bytes(self.kept[:count])
+        del self.kept[:count]
+        times = self.times
+        if times is not None:
+            times, self.times = times[:count], times[count:]
+        self.count += count
+        if samples:
+            self.out(self.written(samples), samples, times)
+
+    def written(self, samples):
+        """The bytes of the samples: lines of up to 32, or as they are."""
+        if self.stream:
+            return samples
+        parts = [samples[at:at + IN_A_LINE] for at in range(0, len(samples), IN_A_LINE)]
+        return "".join("%s%s\n" % (self.mark, part.hex().upper()) for part in parts).encode()
+
+    def length(self):
+        """The bytes of the text up to here."""
+        count = self.count + len(self.kept)
+        return count * 2 + -(-count // IN_A_LINE) * 3 + len(self.first()) + 1

@@ -3,6 +3,7 @@ import re
 from operator import length_hint
 
 from .refusal import Refused, listed, shown
+from .times import scale_of
 
 # the blocks that hold changes; of other blocks nothing is used
 DUMPS = (b"$dumpvars", b"$dumpall", b"$dumpon", b"$dumpoff", b"$end")
@@ -85,10 +86,12 @@ def line_of(mark):
 
 
 class Definitions:
-    """What the definitions say: every identifier with its bits, and of each identifier that is looked at, which bit is which wire."""
+    """What the definitions say: every identifier with its bits, of each identifier that is looked at, which bit is which wire, and the
+    unit of time, or None."""
 
     def __init__(self, words, text, names):
         self.names = names
+        self.scale = None
         self.sizes = {}
         self.seen = []
         found = {wire: {} for wire in names}
@@ -107,6 +110,8 @@ class Definitions:
                 scopes.append(block[-1] if block else b"")
             elif word == b"$upscope":
                 del scopes[-1:]
+            elif word == b"$timescale":
+                self.scale = scale_of(block)
             elif word == b"$var":
                 self.variable(block, scopes, found, mark)
         else:
@@ -164,6 +169,8 @@ class Changes:
         self.level = self.known = 0             # the levels now, and which wires have one
         self.level_before = self.known_before = 0   # and as they were when the last time ended
         self.touched = False
+        self.time = b""                         # at which they changed: its digits; as many digits are compared as they stand
+        self.text.timed(definitions.scale is not None)
         # what a change means, by its word, or by a vector's two: 0 if it is none of ours, else the wires and the levels they go to
         self.meaning = {}
         for identifier, size in definitions.sizes.items():
@@ -179,7 +186,7 @@ class Changes:
         """All that comes after the definitions."""
         meaning = self.meaning.get
         words = self.words.words
-        time = b""              # its digits; as many digits are compared as they stand
+        time = b""
         while words is not None:
             for word in words:
                 change = meaning(word)
@@ -193,12 +200,14 @@ class Changes:
                     if len(digits) != len(time) or digits <= time or not digits.isdigit():
                         if not self.later(digits, time):
                             continue
-                    time = digits
                     if self.touched:
+                        self.time = time
                         self.sample(1)
+                    time = digits
             # a block or a vector may have gone on in the next block of words
             words = self.words.words if self.words.words is not words else self.words.more()
         if self.touched:
+            self.time = time
             self.sample(0)
         missing = self.without_level(self.known)
         if missing:
@@ -301,7 +310,7 @@ class Changes:
                     say = shown(self.names[wire]), "rises" if self.level & wire else "falls", self.without_level(self.known_before)
                     raise Refused("%s %s before %s has had a level" % say, self.words.line(back))
         if self.known == self.all:
-            self.text.take(self.level, lambda: self.words.line(back))
+            self.text.take(self.level, lambda: self.words.line(back), lambda: self.definitions.scale.text(self.time))
         self.level_before, self.known_before = self.level, self.known
 
 

@@ -13,7 +13,10 @@ FILE *fopen(const char *name, const char *mode);
 unsigned long fread(void *to, unsigned long size, unsigned long count, FILE *file);
 unsigned long fwrite(const void *from, unsigned long size, unsigned long count, FILE *file);
 int fclose(FILE *file);
+long read(int file, void *to, unsigned long size);
+long write(int file, const void *from, unsigned long size);
 
+void *memchr(const void *in, int byte, unsigned long size);
 int memcmp(const void *one, const void *other, unsigned long size);
 void *memcpy(void *to, const void *from, unsigned long size);
 void *memmove(void *to, const void *from, unsigned long size);

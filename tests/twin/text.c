@@ -101,8 +101,8 @@ static int form_of(const unsigned char *frame, unsigned long size, unsigned n)
 
 /* ---- the replay ---- */
 
-/* LOAD rises: each chip obeys, and its line is written. */
-static unsigned char *loaded(struct chain *chain, int screen, unsigned char *to)
+/* LOAD rises: each chip obeys, and its line is written. (This and the next are always inlined, as `obey` is, for the same reason.) */
+static inline __attribute__((always_inline)) unsigned char *loaded(struct chain *chain, int screen, unsigned char *to)
 {
     unsigned char segments[8];
     unsigned n = chain->n, k;
@@ -119,7 +119,8 @@ static unsigned char *loaded(struct chain *chain, int screen, unsigned char *to)
     return to;
 }
 
-static unsigned char *played(struct chain *chain, const unsigned char *samples, int count, int screen, unsigned char *to)
+static inline __attribute__((always_inline)) unsigned char *played(struct chain *chain, const unsigned char *samples, int count,
+                                                                   int screen, unsigned char *to)
 {
     unsigned char levels = chain->levels;
     int i;

@@ -79,6 +79,35 @@ void twin_replay(const unsigned char *text, unsigned long length, unsigned char 
  * changes them. These lines are the project's own; what they show is document 01's. */
 void twin_screen(const unsigned char *text, unsigned long length, unsigned char out[ROOM(SCREEN_LINE)], unsigned long answer[3]);
 
+/* ---- streams of any length ---- */
+
+#define MOST_LINES 4294967295ul                         /* of a text */
+enum { LONGEST_LINE = 67 };                             /* 01, 32 samples, and the end */
+
+/* A stream is text, or raw where its first byte is 00H. A read is handed over with what was left by the reads before: of a text a line
+ * that hasn't ended, of a raw stream the beginning of its head or of a scan. */
+enum { WATCH_READ = 4096, WATCH_LEFT = LONGEST_LINE - 1 };
+
+/* The most that one block writes: a LOAD rise takes two samples, but for the first, whose fall came before; at the end comes a refusal
+ * of a raw stream, 21 bytes. */
+#define WATCH_ROOM (((WATCH_LEFT + WATCH_READ) / 2 + 1) * MOST * SCREEN_LINE + 21)
+
+struct watch {
+    struct chain chain;                                 /* n is 0 before the first line or the head */
+    int screen, begun, raw, refused;
+    unsigned long passed;                               /* the lines, or the bytes of a raw stream, that were taken */
+};
+
+void watch_start(struct watch *w, int screen);
+
+/* Plays what is whole in a block and puts what it writes, and how much that is, at the last two; gives how many bytes it took. The others,
+ * at most WATCH_LEFT where it doesn't refuse, are to come first in the next block. */
+unsigned long watch_block(struct watch *w, const unsigned char *bytes, unsigned long count, unsigned char out[WATCH_ROOM],
+                          unsigned long *size);
+
+/* The stream ends with so many bytes left; gives how much it writes. */
+unsigned long watch_end(struct watch *w, unsigned long left, unsigned char out[WATCH_ROOM]);
+
 /* ---- the tally ---- */
 
 #define CODES 128                                       /* of seven bits */

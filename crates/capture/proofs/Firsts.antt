@@ -1,7 +1,10 @@
 -- The first line of a text: 00 01 N, or refusal 10.
 --     first-cut                          a text with no line that was ended gives no chips
---     other-count, by-three              a frame that holds other than three bytes, and one that holds three
---     first-none, first-some, first-ended     a line that gives no number of chips, and one that gives a number
+--     first-count, first-three           other than three bytes are refused, and three by a test of each
+--     first-held                         what a frame has room for says what the line says
+--     frame-says                         the first line says what its frame holds
+--     bytes-none, bytes-some             bytes that give no number of chips, and those that give a number
+--     first-none, first-some, first-ended     the same of a line
 --     long-out, none-out                 a text too long, and one whose first line gives no chips
 --     Comes                              a text's output and its end
 --     replays-so, piece-room             the output put at the front is what is promised, and has room
@@ -34,7 +37,7 @@ use Rattle.capture.specs.declared.Replayed.{Replayed}
 use Rattle.lines.specs.declared.Frame.{Frame}
 use Rattle.lines.specs.Answers.{lineLength, heldIn, frameFor, heldBy}
 use Rattle.lines.specs.Lines.{Line, ended, linesOf, bytesIn}
-use Rattle.lines.proofs.Frames.{Holds, frame-holds}
+use Rattle.lines.proofs.Frames.{frame-holds}
 use Rattle.lines.proofs.Lines.{lines-next, lines-last}
 use Rattle.capture.specs.Frames.{firstOf}
 use Rattle.capture.specs.Parts.{firstIn, chipsIn, Ends}
@@ -55,7 +58,7 @@ first-next text h = ap firstIn (lines-next text h)
 
 -- ---- its bytes
 
-first-count : (bytes : List ℕ) → (length bytes ≡ 3 → ⊥) → firstOf bytes ≡ refused 10 0
+pub first-count : (bytes : List ℕ) → (length bytes ≡ 3 → ⊥) → firstOf bytes ≡ refused 10 0
 unfolding firstOf
 first-count [] ne = refl
 first-count (a ∷ []) ne = refl
@@ -63,47 +66,30 @@ first-count (a ∷ b ∷ []) ne = refl
 first-count (a ∷ b ∷ n ∷ []) ne = absurd (ne refl)
 first-count (a ∷ b ∷ n ∷ c ∷ more) ne = refl
 
-first-held : (chars : List ℕ) → firstOf (heldIn chars) ≡ firstOf (bytesIn (ended chars))
+pub first-held : (chars : List ℕ) → firstOf (heldIn chars) ≡ firstOf (bytesIn (ended chars))
 first-held =
     held-same firstOf (λ bytes h. first-count bytes (λ e. absurd (omega arith)) ∙ sym (first-count [] (λ e. absurd (omega arith))))
 
-first-three : (a b n : ℕ) → firstOf (a ∷ b ∷ n ∷ []) ≡ pick (eqb a 0x00 && eqb b 0x01 && chipCount n) (done n) (refused 10 0)
+-- the test of three bytes
+abbrev pub firstTest : List ℕ → Bool
+firstTest bytes = eqb (getD bytes 0 0) 0x00 && eqb (getD bytes 1 0) 0x01 && chipCount (getD bytes 2 0)
+
+pub first-three : (bytes : List ℕ) → length bytes ≡ 3 → firstOf bytes ≡ pick (firstTest bytes) (done (getD bytes 2 0)) (refused 10 0)
 unfolding firstOf
-first-three a b n = refl
+first-three [] h = absurd (omega arith)
+first-three (a ∷ []) h = absurd (omega arith)
+first-three (a ∷ b ∷ []) h = absurd (omega arith)
+first-three (a ∷ b ∷ n ∷ []) h = refl
+first-three (a ∷ b ∷ n ∷ c ∷ more) h = absurd (omega arith)
 
-three-held : (fb : List ℕ) → 3 ≤ length fb → take 3 fb ≡ getD fb 0 0 ∷ getD fb 1 0 ∷ getD fb 2 0 ∷ []
-three-held [] h = absurd (omega arith)
-three-held (a ∷ []) h = absurd (omega arith)
-three-held (a ∷ b ∷ []) h = absurd (omega arith)
-three-held (a ∷ b ∷ c ∷ more) h = refl
+-- ---- what its frame holds
 
--- ---- by what its frame holds
-
-module _ (text : List ℕ) (end : ℕ) (here : end ≡ 0 + lineLength text) (more : end < length text) (f : Frame)
-    (reads : f ≡ frameFor (heldIn (take end text))) (size : length (f .bytes) ≡ 33) where
-  holds : Holds f (heldIn (take end text))
-  holds = frame-holds (take end text) reads
-
-  -- the first line says what the frame says
-  frame-says : firstIn (linesOf text) ≡ firstOf (heldBy f)
-  frame-says =
-      let there : lineLength text ≡ end = omega arith in
-      first-next text (omega arith) ∙ sym (first-held (take (lineLength text) text))
-      ∙ ap firstOf (ap (λ m. heldIn (take m text)) there ∙ sym (holds .front))
-
-  pub other-count : (f .count ≡ 3 → ⊥) → 0 ≡ chipsIn (firstIn (linesOf text))
-  other-count ne =
-      sym (ap chipsIn (frame-says ∙ first-count (heldBy f) (λ e. ne (holds .count ∙ ap length (sym (holds .front)) ∙ e))))
-
-  pub by-three : f .count ≡ 3
-      → chipsIn (firstIn (linesOf text))
-      ≡ chipsIn
-      (pick (eqb (getD (f .bytes) 0 0) 0x00 && eqb (getD (f .bytes) 1 0) 0x01 && chipCount (getD (f .bytes) 2 0)) (done (getD (f .bytes) 2 0)) (refused 10 0))
-  by-three e =
-      ap chipsIn
-      (frame-says
-      ∙ ap firstOf (ap (λ m. take m (f .bytes)) e ∙ three-held (f .bytes) (omega arith))
-      ∙ first-three (getD (f .bytes) 0 0) (getD (f .bytes) 1 0) (getD (f .bytes) 2 0))
+pub frame-says : (text : List ℕ) (end : ℕ) → end ≡ 0 + lineLength text → end < length text → (f : Frame) → f ≡ frameFor (heldIn (take end text))
+    → firstIn (linesOf text) ≡ firstOf (heldBy f)
+frame-says text end here more f reads =
+    let there : lineLength text ≡ end = omega arith in
+    first-next text (omega arith) ∙ sym (first-held (take (lineLength text) text))
+    ∙ ap firstOf (ap (λ m. heldIn (take m text)) there ∙ sym (frame-holds (take end text) reads .front))
 
 -- ---- what follows from it
 
@@ -127,23 +113,31 @@ first-counted (a ∷ b ∷ []) = refl
 first-counted (a ∷ b ∷ n ∷ []) = all-three (eqb a 0x00) (eqb b 0x01) (chipCount n) n (λ t. t)
 first-counted (a ∷ b ∷ n ∷ c ∷ more) = refl
 
--- a first line that gives no number of chips is refused with 10; one that gives a number gives 1 to 8
-pub first-none : (l : Line) → chipsIn (firstOf (bytesIn l)) ≡ 0 → (place : ℕ) × (firstOf (bytesIn l) ≡ refused 10 place)
+-- bytes that give no number of chips are refused with 10; those that give a number give 1 to 8
+pub bytes-none : (bytes : List ℕ) → chipsIn (firstOf bytes) ≡ 0 → (place : ℕ) × (firstOf bytes ≡ refused 10 place)
 unfolding Counted
-first-none l e = go (firstOf (bytesIn l)) (first-counted (bytesIn l)) e
+bytes-none bytes e = go (firstOf bytes) (first-counted bytes) e
   where
     go : (t : Told ℕ) → Counted t → chipsIn t ≡ 0 → (place : ℕ) × (t ≡ refused 10 place)
     go (done n) c z = let h = count-low n c in absurd (omega arith)
     go (refused number place) c z = (place, ap (λ m. refused m place) c)
 
-pub first-some : (l : Line) → (chipsIn (firstOf (bytesIn l)) ≡ 0 → ⊥)
-    → (firstOf (bytesIn l) ≡ done (chipsIn (firstOf (bytesIn l)))) × T (chipCount (chipsIn (firstOf (bytesIn l))))
+pub bytes-some : (bytes : List ℕ) → (chipsIn (firstOf bytes) ≡ 0 → ⊥)
+    → (firstOf bytes ≡ done (chipsIn (firstOf bytes))) × T (chipCount (chipsIn (firstOf bytes)))
 unfolding Counted
-first-some l ne = go (firstOf (bytesIn l)) (first-counted (bytesIn l)) ne
+bytes-some bytes ne = go (firstOf bytes) (first-counted bytes) ne
   where
     go : (t : Told ℕ) → Counted t → (chipsIn t ≡ 0 → ⊥) → (t ≡ done (chipsIn t)) × T (chipCount (chipsIn t))
     go (done n) c z = (refl, c)
     go (refused number place) c z = absurd (z refl)
+
+-- so are those of a first line
+pub first-none : (l : Line) → chipsIn (firstOf (bytesIn l)) ≡ 0 → (place : ℕ) × (firstOf (bytesIn l) ≡ refused 10 place)
+first-none l = bytes-none (bytesIn l)
+
+pub first-some : (l : Line) → (chipsIn (firstOf (bytesIn l)) ≡ 0 → ⊥)
+    → (firstOf (bytesIn l) ≡ done (chipsIn (firstOf (bytesIn l)))) × T (chipCount (chipsIn (firstOf (bytesIn l))))
+first-some l = bytes-some (bytesIn l)
 
 -- where a number is given, the first line was ended
 pub first-ended : (text : List ℕ) → (chipsIn (firstIn (linesOf text)) ≡ 0 → ⊥) → lineLength text < length text

@@ -7,6 +7,7 @@ pub mod Walks
 pub mod Walked
 pub mod Firsts
 pub mod Room
+pub mod Taken
 pub mod Law
 pub mod Ends
 pub mod Kept

@@ -3,6 +3,7 @@
 --     rise-line-length, rise-lines-length               a chip's line at a LOAD rise, and all chips'
 --     at-rise-room, at-scan-room                        what one LOAD rise and one scan write
 --     rises-room                                        what samples write: a rise needs LOAD low before it
+--     form-room                                         what a line's bytes write
 --     line-room, lines-room, first-high, output-room    one line, all after the first, and the whole
 -- Assumes nothing.
 use mathlib.Core.Path.{_≡_, refl, ap, sym, subst}
@@ -120,7 +121,7 @@ bytes-room (cutOff cs) = omega arith
 
 module _ (what : Report) (n : ℕ) (ch : Chain) (h : n ≤ most) where
   -- a form writes at most so much
-  abbrev Within : ℕ → Form → Type 0
+  abbrev pub Within : ℕ → Form → Type 0
   Within m form = length (outOf (taken what n ch form .told)) ≤ spread * lineWidth what * m
 
   samples-room : (m : ℕ) (t : Told (Unit {0})) (ss : List ℕ) → 2 * suc (length ss) ≤ m → Within m (samplesBy t ss)
@@ -134,7 +135,7 @@ module _ (what : Report) (n : ℕ) (ch : Chain) (h : n ≤ most) where
       (λ _. omega (arith, at-scan-room what k bytes (chipAt k ch), mul-le-mul-left (lineWidth what) l))
       (λ _. omega arith)
 
-  form-room : (m : ℕ) (bytes : List ℕ) → 2 * length bytes ≤ m → Within m (formOf n bytes)
+  pub form-room : (m : ℕ) (bytes : List ℕ) → 2 * length bytes ≤ m → Within m (formOf n bytes)
   unfolding formOf
   form-room m [] l = omega arith
   form-room m (kind ∷ rest) l =

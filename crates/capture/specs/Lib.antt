@@ -3,3 +3,4 @@ pub mod Reports
 pub mod Replay
 pub mod Parts
 pub mod Law
+pub mod Takes

@@ -1,4 +1,5 @@
--- What the walk's own functions promise to one another, and what `chips_of` answers. No entry's promise cites these.
+-- What the walk's own functions promise to one another and those of `takes` to the other crates, and what `chips_in` and `chips_of`
+-- answer. No entry's promise cites these.
 -- Assumes nothing.
 use mathlib.Core.Path.{_≡_}
 use Prim.Native.Nat.{ℕ}

@@ -58,17 +58,11 @@ pub fn form_of(n: usize, bytes: &[u8]) -> Form
     Form::Scan
 }
 
-// N of the first line, 00 01 N; 0 where it isn't of that form.
-pub fn chips_of(text: &[u8]) -> usize
-    ensures { λ r. ⌜ r ≡ P.chipsIn (P.firstIn (L.linesOf (now (text .entry)))) ⌝ }
+// N of a first line's bytes, 00 01 N; 0 where they aren't of that form.
+pub fn chips_in(bytes: &[u8]) -> usize
+    ensures { λ r. ⌜ r ≡ P.chipsIn (F.firstOf (now (bytes .entry))) ⌝ }
 {
-    let end = lines::line_end(text, 0);
-    if end >= text.len() {
-        return 0;
-    }
-    let frame = lines::frame_of(&text[..end]);
-    let bytes = frame.bytes;
-    if frame.count != 3 {
+    if bytes.len() != 3 {
         return 0;
     }
     if bytes[0] != 0x00 {
@@ -82,4 +76,18 @@ pub fn chips_of(text: &[u8]) -> usize
         return 0;
     }
     n
+}
+
+// N of a text's first line; 0 where it isn't of its form.
+pub fn chips_of(text: &[u8]) -> usize
+    ensures { λ r. ⌜ r ≡ P.chipsIn (P.firstIn (L.linesOf (now (text .entry)))) ⌝ }
+{
+    let end = lines::line_end(text, 0);
+    if end >= text.len() {
+        return 0;
+    }
+    let frame = lines::frame_of(&text[..end]);
+    let count = frame.count;
+    let bytes = frame.bytes;
+    chips_in(&bytes[..count])
 }

@@ -21,14 +21,21 @@ ghost use Rattle.capture.specs.Replay as R;
 ghost use Rattle.capture.specs.Reports.{refusalLine};
 
 // A line: the chain after it, whether it was taken, and the place past what it wrote.
-pub(crate) struct Took {
-    pub(crate) chain: Chain,
-    pub(crate) taken: bool,
-    pub(crate) at: usize,
+pub struct Took {
+    pub chain: Chain,
+    pub taken: bool,
+    pub at: usize,
 }
 
 // Samples that passed their test, from one LOAD rise to the next.
-fn samples(what: Report, n: usize, chain: Chain, ss: &[u8], out: &mut [u8], at: usize) -> Took
+pub(crate) fn samples(
+    what: Report,
+    n: usize,
+    chain: Chain,
+    ss: &[u8],
+    out: &mut [u8],
+    at: usize,
+) -> Took
     requires { ⌜ n ≤ C.most ⌝ }
     requires { ⌜ at + length (R.risesIn what n (now ss) chain) ≤ length (now out) ⌝ }
     ensures { λ r. ⌜ P.Takes (R.taken what n chain (F.samples (now (ss .entry)))) at (now (out .entry)) r (now (out .exit)) ⌝ }
@@ -53,7 +60,7 @@ fn samples(what: Report, n: usize, chain: Chain, ss: &[u8], out: &mut [u8], at: 
 }
 
 // A scan of a chip.
-fn scan_line(
+pub(crate) fn scan_line(
     what: Report,
     n: usize,
     chain: Chain,
@@ -77,7 +84,14 @@ fn scan_line(
 }
 
 // A line after the first.
-fn line(what: Report, n: usize, chain: Chain, frame: Frame, out: &mut [u8], at: usize) -> Took
+pub(crate) fn line(
+    what: Report,
+    n: usize,
+    chain: Chain,
+    frame: Frame,
+    out: &mut [u8],
+    at: usize,
+) -> Took
     requires { ⌜ n ≤ C.most ⌝ }
     requires { ⌜ frame .count ≤ 33 ⌝ }
     requires { ⌜ at + length (P.outOf (R.taken what n chain (F.formOf n (heldBy frame)) .told)) ≤ length (now out) ⌝ }

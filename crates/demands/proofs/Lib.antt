@@ -48,3 +48,4 @@ pub mod ExactNumbers
 pub mod WiresForms
 pub mod ExactWires
 pub mod WiresUnchanged
+pub mod Watching

@@ -20,3 +20,4 @@ pub mod Blocks
 pub mod PanelBlocks
 pub mod Asleep
 pub mod Alone
+pub mod Watching

@@ -2,7 +2,8 @@
 --     hex-none, hex-figure, hex-between, hex-letter, hex-past     what a character counts, by where it stands
 --     hex-more, hex-over, hex-at                                  every character is a digit
 --     bytes-more, bytes-over, bytes-half, bytes-length            bytes of digits, and their number
---     end-here, end-more, end-over, line-length-le                how far a line goes on
+--     length-stops, length-more                                   how far a line goes on, by its first character
+--     end-here, end-more, end-over, line-length-le                the same from a place on
 --     line-begins, lines-next, lines-last, lines-append           the lines of a text
 --     charsIn, chars-in                                           how many characters lines have
 -- Assumes nothing.
@@ -103,20 +104,20 @@ bytes-length chars = omega (arith, bytes-half chars)
 
 -- ---- how far a line goes on
 
-stops : (ch : ℕ) (text : List ℕ) → ch ≡ newline → lineLength (ch ∷ text) ≡ 0
+pub length-stops : (ch : ℕ) (text : List ℕ) → ch ≡ newline → lineLength (ch ∷ text) ≡ 0
 unfolding lineLength
-stops ch text e = pick-yes 0 (suc (lineLength text)) (eq-eqb ch newline e)
+length-stops ch text e = pick-yes 0 (suc (lineLength text)) (eq-eqb ch newline e)
 
-goes-on : (ch : ℕ) (text : List ℕ) → (ch ≡ newline → ⊥) → lineLength (ch ∷ text) ≡ suc (lineLength text)
+pub length-more : (ch : ℕ) (text : List ℕ) → (ch ≡ newline → ⊥) → lineLength (ch ∷ text) ≡ suc (lineLength text)
 unfolding lineLength
-goes-on ch text n = pick-no 0 (suc (lineLength text)) (ne-eqb ch newline n)
+length-more ch text n = pick-no 0 (suc (lineLength text)) (ne-eqb ch newline n)
 
 pub end-here : (text : List ℕ) (at : ℕ) → at < length text → getD text at 0 ≡ newline → lineLength (drop at text) ≡ 0
-end-here text at h e = ap lineLength (rest-is text at 0 h) ∙ stops (getD text at 0) (drop (at + 1) text) e
+end-here text at h e = ap lineLength (rest-is text at 0 h) ∙ length-stops (getD text at 0) (drop (at + 1) text) e
 
 pub end-more : (text : List ℕ) (at : ℕ) → at < length text → (getD text at 0 ≡ newline → ⊥)
     → lineLength (drop at text) ≡ suc (lineLength (drop (at + 1) text))
-end-more text at h n = ap lineLength (rest-is text at 0 h) ∙ goes-on (getD text at 0) (drop (at + 1) text) n
+end-more text at h n = ap lineLength (rest-is text at 0 h) ∙ length-more (getD text at 0) (drop (at + 1) text) n
 
 pub end-over : (text : List ℕ) (at : ℕ) → length text ≤ at → lineLength (drop at text) ≡ 0
 unfolding lineLength
@@ -127,7 +128,7 @@ unfolding lineLength
 line-length-le [] = omega arith
 line-length-le (ch ∷ text) =
     let more = line-length-le text in
-    by-equality ch newline (λ e. omega (arith, stops ch text e)) (λ n. omega (arith, goes-on ch text n))
+    by-equality ch newline (λ e. omega (arith, length-stops ch text e)) (λ n. omega (arith, length-more ch text n))
 
 -- ---- the lines of a text
 
@@ -146,9 +147,9 @@ first text n = ended (take n text) ∷ linesOf (drop (suc n) text)
 first-line : (text : List ℕ) → lineLength text < length text → linesOf text ≡ first text (lineLength text)
 first-line [] h = absurd (omega arith)
 first-line (ch ∷ text) h =
-    by-equality ch newline (λ e. line-ends ch text e ∙ ap (first (ch ∷ text)) (sym (stops ch text e)))
-    (λ n. let l : lineLength text < length text = omega (arith, goes-on ch text n) in
-    line-begins ch text n ∙ ap (before ch) (first-line text l) ∙ ap (first (ch ∷ text)) (sym (goes-on ch text n)))
+    by-equality ch newline (λ e. line-ends ch text e ∙ ap (first (ch ∷ text)) (sym (length-stops ch text e)))
+    (λ n. let l : lineLength text < length text = omega (arith, length-more ch text n) in
+    line-begins ch text n ∙ ap (before ch) (first-line text l) ∙ ap (first (ch ∷ text)) (sym (length-more ch text n)))
 
 pub lines-next : (text : List ℕ) → lineLength text < length text
     → linesOf text ≡ ended (take (lineLength text) text) ∷ linesOf (drop (lineLength text + 1) text)
@@ -158,10 +159,10 @@ lines-next text h =
 pub lines-last : (text : List ℕ) → 0 < length text → length text ≤ lineLength text → linesOf text ≡ cutOff text ∷ []
 unfolding linesOf
 lines-last [] p h = absurd (omega arith)
-lines-last (ch ∷ []) p h = by-equality ch newline (λ e. absurd (omega (arith, stops ch [] e))) (λ n. line-begins ch [] n)
+lines-last (ch ∷ []) p h = by-equality ch newline (λ e. absurd (omega (arith, length-stops ch [] e))) (λ n. line-begins ch [] n)
 lines-last (ch ∷ x ∷ text) p h =
-    by-equality ch newline (λ e. absurd (omega (arith, stops ch (x ∷ text) e)))
-    (λ n. let l : length (x ∷ text) ≤ lineLength (x ∷ text) = omega (arith, goes-on ch (x ∷ text) n) in
+    by-equality ch newline (λ e. absurd (omega (arith, length-stops ch (x ∷ text) e)))
+    (λ n. let l : length (x ∷ text) ≤ lineLength (x ∷ text) = omega (arith, length-more ch (x ∷ text) n) in
     let q : 0 < length (x ∷ text) = omega arith in
     line-begins ch (x ∷ text) n ∙ ap (before ch) (lines-last (x ∷ text) q l))
 

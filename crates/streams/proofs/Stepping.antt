@@ -1,0 +1,77 @@
+-- Steps of a stream, as the code makes them.
+--     step-as, nothing-written                        a step that is another, and one that writes nothing
+--     head-other, head-next, head-none, head-count    one of the first three bytes of a raw stream, case by case
+--     samples-made, scan-made                         an item of a raw stream that is whole
+-- Assumes nothing.
+use mathlib.Core.Path.{_≡_, refl, sym, subst, _∙_}
+use mathlib.Core.Bool.{true, false}
+use mathlib.Core.List.{List, []}
+use Prim.Native.Nat.{ℕ, _+_, _*_, _%_, _^_, _≤_, _<_}
+use native.Mathlib.Omega.{arith}
+use borrow.Author.Tests.{lt-ltb, le-ltb, eq-eqb, ne-eqb}
+use lib.Dec.{T}
+use lib.ListN.{length}
+use Rattle.base.proofs.Lent.{placed-none}
+use Rattle.base.proofs.Picks.{pick-yes, pick-no}
+use Rattle.chain.specs.Chain.{chipCount}
+use Rattle.chain.specs.Entries.{startChain}
+use Rattle.chain.proofs.Tested.{count-high}
+use Rattle.capture.specs.declared.Report.{Report}
+use Rattle.capture.specs.declared.walk.Took.{Took}
+use Rattle.capture.specs.Frames.{scan}
+use Rattle.capture.specs.Parts.{Takes}
+use Rattle.capture.specs.Takes.{samplesWhere, scanWhere}
+use Rattle.capture.proofs.Taken.{samples-where, scan-where}
+use Rattle.streams.specs.declared.State.{State}
+use Rattle.streams.specs.declared.Step.{Step}
+use Rattle.streams.specs.declared.held.Held.{Held}
+use Rattle.streams.specs.Held.{noneHeld}
+use Rattle.streams.specs.Parts.{Steps, ran}
+use Rattle.streams.specs.Raw.{nextOffset}
+use Rattle.streams.specs.Steps.{Stepped, going, begins, rawRefused, rawHeld, rawTaken, headByte}
+
+-- ---- any step
+
+pub step-as : {x y : Stepped} {at : ℕ} {out : List ℕ} {r : Step} {out′ : List ℕ} → x ≡ y → Steps y at out r out′ → Steps x at out r out′
+step-as {at = at} {out = out} {r = r} {out′ = out′} e = subst (λ z. Steps z at out r out′) (sym e)
+
+pub nothing-written : {s t : State} (at : ℕ) (out : List ℕ) → t ≡ s → Steps (going s []) at out (record { state = t; over = false; at = at }) out
+nothing-written at out e = record { state = e; over = refl; puts = record { answer = omega arith; bytes = sym (placed-none out at) } }
+
+-- ---- one of the first three bytes
+
+module _ (s : State) (b : ℕ) where
+  pub head-other : s .held .count < 2 → (b ≡ s .held .count → ⊥) → headByte s b ≡ rawRefused s
+  head-other few ne = pick-yes _ _ (lt-ltb (s .held .count) 2 few) ∙ pick-no _ _ (ne-eqb b (s .held .count) ne)
+
+  pub head-next : s .held .count < 2 → b ≡ s .held .count → headByte s b ≡ rawHeld s b
+  head-next few e = pick-yes _ _ (lt-ltb (s .held .count) 2 few) ∙ pick-yes _ _ (eq-eqb b (s .held .count) e)
+
+  pub head-none : 2 ≤ s .held .count → chipCount b ≡ false → headByte s b ≡ rawRefused s
+  head-none many e = pick-no _ _ (le-ltb (s .held .count) 2 many) ∙ pick-no _ _ e
+
+  pub head-count : 2 ≤ s .held .count → chipCount b ≡ true → headByte s b ≡ going (begins b startChain (nextOffset (s .place))) []
+  head-count many e = pick-no _ _ (le-ltb (s .held .count) 2 many) ∙ pick-yes _ _ e
+
+-- ---- an item that is whole
+
+-- a chain that was taken, and what it wrote
+module _ (what : Report) (s : State) {at : ℕ} {out out′ : List ℕ} {t : Took} where
+  pub samples-made : (levels : List ℕ) → chipCount (s .n) ≡ true → at + 84 * (length levels + 1) ≤ length out
+      → Takes (samplesWhere what (s .n) (s .chain) levels at out) at out t out′
+      → {place : ℕ} → place ≡ (s .place + length levels) % 2 ^ 64
+      → {held : Held} → held ≡ noneHeld
+      → Steps (ran what s levels) at out (record { state = record { n = s .n; chain = t .chain; place = place; held = held }; over = false; at = t .at }) out′
+  samples-made levels count room takes p h =
+      let few = count-high (s .n) (subst T (sym count) tt) in
+      let took = subst (λ o. Takes o at out t out′) (samples-where what (s .n) (s .chain) levels at out few room) takes in
+      record { state = λ i. record { n = s .n; chain = took .chain i; place = p i; held = h i }; over = refl; puts = took .puts }
+
+  pub scan-made : (k : ℕ) (bytes : List ℕ) → at + 21 ≤ length out
+      → Takes (scanWhere what (s .n) (s .chain) k bytes at out) at out t out′
+      → {place : ℕ} → place ≡ nextOffset (s .place)
+      → {held : Held} → held ≡ noneHeld
+      → Steps (rawTaken what s (scan k bytes)) at out (record { state = record { n = s .n; chain = t .chain; place = place; held = held }; over = false; at = t .at }) out′
+  scan-made k bytes room takes p h =
+      let took = subst (λ o. Takes o at out t out′) (scan-where what (s .n) (s .chain) k bytes at out room) takes in
+      record { state = λ i. record { n = s .n; chain = took .chain i; place = p i; held = h i }; over = refl; puts = took .puts }
