@@ -5,6 +5,8 @@
 --     writes-start, writes-more, writes-over        a line's loop
 --     fitting-whole, fitting-none                   what is put of a piece, where there is room and where there is none
 --     put-whole, put-fitting, put-none              a piece put where it fits, both ways, and nothing where it doesn't
+--     puts-room, puts-both                          a piece put after another
+--     eightOf                                       the bytes of an array of eight
 -- Assumes nothing.
 use mathlib.Core.Path.{_≡_, refl, ap, ap₂, sym, subst, _∙_}
 use mathlib.Core.List.{List, [], _∷_, _++_}
@@ -118,3 +120,22 @@ put-fitting {piece} {at} {out} {r} {out′} h = subst (λ p. Puts p at out r out
 pub put-none : (piece : List ℕ) (at : ℕ) (out : List ℕ) → length out < at + length piece → Puts (fitting piece at out) at out at out
 put-none piece at out h =
     subst (λ p. Puts p at out at out) (sym (fitting-none piece at out h)) record { answer = omega arith; bytes = sym (placed-none out at) }
+
+-- ---- pieces one after another
+
+module _ (p q : List ℕ) {at : ℕ} {out : List ℕ} {r : ℕ} {out′ : List ℕ} (room : at + length (p ++ q) ≤ length out) (put : Puts p at out r out′) where
+  -- what is left after the first
+  after-first : Fills at (p ++ q) out r q out′
+  after-first = fills-more p q (fills-start at (p ++ q) out) room (put .answer) (put .bytes)
+
+  pub puts-room : r + length q ≤ length out′
+  puts-room = omega (arith, after-first .count, after-first .size)
+
+  pub puts-both : {s : ℕ} {out″ : List ℕ} → Puts q r out′ s out″ → Puts (p ++ q) at out s out″
+  puts-both more = record { answer = more .answer ∙ after-first .count; bytes = more .bytes ∙ after-first .bytes }
+
+-- ---- arrays of eight
+
+-- what an array of eight bytes holds
+abbrev pub eightOf : List ℕ → List ℕ
+eightOf xs = getD xs 0 0 ∷ getD xs 1 0 ∷ getD xs 2 0 ∷ getD xs 3 0 ∷ getD xs 4 0 ∷ getD xs 5 0 ∷ getD xs 6 0 ∷ getD xs 7 0 ∷ []

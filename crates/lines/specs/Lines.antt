@@ -69,3 +69,7 @@ lineFor bytes = asHex bytes ++ newline ∷ []
 -- a number in four bytes, high first
 abbrev pub fourBytes : ℕ → List ℕ
 fourBytes n = (n / 2 ^ 24 % 256) ∷ (n / 2 ^ 16 % 256) ∷ (n / 2 ^ 8 % 256) ∷ (n % 256) ∷ []
+
+-- a number in eight bytes, high first
+abbrev pub eightBytes : ℕ → List ℕ
+eightBytes n = fourBytes (n / 2 ^ 32) ++ fourBytes n

@@ -1,4 +1,4 @@
-// Lines of hexadecimal: where a line ends, its bytes, two digits a byte, and a line written into a lent buffer. The three public
+// Lines of hexadecimal: where a line ends, its bytes, two digits a byte, and a line written into a lent buffer. The four public
 // functions are inner ones, for the other crates; users have no entry here. None of them has a `requires`.
 ghost use mathlib.Core.Path.{_≡_};
 ghost use Prim.Native.Nat.{_+_, _≤_, _<_};
@@ -150,4 +150,21 @@ pub fn put_line(bytes: &[u8], out: &mut [u8], at: usize) -> usize
         return at;
     }
     line(bytes, out, at)
+}
+
+// A number in eight bytes, the high one first.
+pub fn eight_bytes(n: u64) -> [u8; 8]
+    ensures { λ r. ⌜ r ≡ L.eightBytes n ⌝ }
+{
+    let high = n / 4294967296;
+    [
+        (high / 16777216 % 256) as u8,
+        (high / 65536 % 256) as u8,
+        (high / 256 % 256) as u8,
+        (high % 256) as u8,
+        (n / 16777216 % 256) as u8,
+        (n / 65536 % 256) as u8,
+        (n / 256 % 256) as u8,
+        (n % 256) as u8,
+    ]
 }

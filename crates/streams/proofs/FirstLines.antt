@@ -19,6 +19,8 @@ use Rattle.capture.specs.Frames.{firstOf}
 use Rattle.capture.specs.Parts.{chipsIn}
 use Rattle.capture.specs.Reports.{refusalLine}
 use Rattle.capture.proofs.Firsts.{first-none, first-some}
+use Rattle.reads.specs.declared.Reader.{Reader}
+use Rattle.reads.specs.Reads.{startReader}
 use Rattle.streams.specs.declared.Kind.the-variants.{Text}
 use Rattle.streams.specs.declared.State.{State}
 use Rattle.streams.specs.declared.held.Held.{Held}
@@ -31,21 +33,21 @@ use Rattle.streams.proofs.TextSteps.{byte-held, byte-ends}
 use Rattle.streams.proofs.Texts.{text-from}
 use Rattle.streams.proofs.Written.{stands, written, written-stopped}
 
-module _ (what : Report) (n : ℕ) (ch : Chain) (none : chipCount n ≡ false) (m : ℕ) (limit : mostLines ≡ suc m) where
+module _ (what : Report) (n : ℕ) (ch : Chain) (rd : Reader) (none : chipCount n ≡ false) (m : ℕ) (limit : mostLines ≡ suc m) where
   -- what is left of the steps
   abbrev onward : List ℕ → State → Stepped
   onward text next = steps (textByte what) next text
 
   -- the first line says what it does
-  first-ends : {held : Held} (h : List ℕ) → HoldsLine held h → lineEnded what (stands n ch 1 held) ≡ firstTaken (stands n ch 1 held) (firstOf (bytesIn (ended h)))
-  first-ends {held} h p = pick-no _ _ none ∙ ap (firstTaken (stands n ch 1 held)) (first-held h p)
+  first-ends : {held : Held} (h : List ℕ) → HoldsLine held h → lineEnded what (stands n ch rd 1 held) ≡ firstTaken (stands n ch rd 1 held) (firstOf (bytesIn (ended h)))
+  first-ends {held} h p = pick-no _ _ none ∙ ap (firstTaken (stands n ch rd 1 held)) (first-held h p)
 
   -- and the lines after it write what they write
   first-taken : (held : Held) (h text : List ℕ)
-      → written Text (then (firstTaken (stands n ch 1 held) (firstOf (bytesIn (ended h)))) (onward text)) ≡ firstLimited what m (firstOf (bytesIn (ended h))) (linesOf text)
+      → written Text (then (firstTaken (stands n ch rd 1 held) (firstOf (bytesIn (ended h)))) (onward text)) ≡ firstLimited what m (firstOf (bytesIn (ended h))) (linesOf text)
   unfolding firstLimited
   first-taken held h text =
-      let s = stands n ch 1 held in
+      let s = stands n ch rd 1 held in
       let t = firstOf (bytesIn (ended h)) in
       by-equality (chipsIn t) 0
       (λ z.
@@ -57,11 +59,11 @@ module _ (what : Report) (n : ℕ) (ch : Chain) (none : chipCount n ≡ false) (
       let r = first-some (ended h) ne in
       let next : m + 2 ≡ 2 ^ 32 = omega arith in
       ap (λ x. written Text (then (firstTaken s x) (onward text))) (r .0)
-      ∙ text-from what (chipsIn t) (is-true (chipCount (chipsIn t)) (r .1)) text [] noneHeld 2 m startChain holds-none no-end next (λ _. refl)
+      ∙ text-from what (chipsIn t) (is-true (chipCount (chipsIn t)) (r .1)) text [] noneHeld 2 m startChain startReader holds-none no-end next (λ _. refl)
       ∙ ap (λ x. firstLimited what m x (linesOf text)) (sym (r .0)))
 
   pub text-first : (text h : List ℕ) (held : Held) → HoldsLine held h → NoEnd h → 0 < length h + length text
-      → written Text (steps (textByte what) (stands n ch 1 held) text) ≡ longOut what (linesOf (h ++ text))
+      → written Text (steps (textByte what) (stands n ch rd 1 held) text) ≡ longOut what (linesOf (h ++ text))
   unfolding steps firstLimited firstOf
   text-first [] [] held p q some = absurd (omega arith)
   text-first [] (c ∷ h) held p q some =
@@ -69,7 +71,7 @@ module _ (what : Report) (n : ℕ) (ch : Chain) (none : chipCount n ≡ false) (
       ∙ sym (long-first what m limit (cutOff (c ∷ h)) [])
       ∙ ap (longOut what) (sym (ap linesOf (append-nil (c ∷ h)) ∙ lines-cut c h q))
   text-first (b ∷ text) h held p q some =
-      let s = stands n ch 1 held in
+      let s = stands n ch rd 1 held in
       let within : 1 < 2 ^ 32 = omega arith in
       by-equality b newline
       (λ eq.

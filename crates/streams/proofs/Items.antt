@@ -19,10 +19,11 @@ use Rattle.chain.specs.declared.Chain.{Chain}
 use Rattle.chain.specs.Chain.{chipCount}
 use Rattle.chain.proofs.Tested.{count-high}
 use Rattle.capture.specs.declared.Report.{Report}
-use Rattle.capture.specs.Frames.{Form, samples, scan}
+use Rattle.reads.specs.declared.Reader.{Reader}
+use Rattle.reads.specs.Reads.{isSample}
 use Rattle.streams.specs.declared.State.{State}
 use Rattle.streams.specs.declared.held.Held.{Held}
-use Rattle.streams.specs.Raw.{whole, begun, wrong, isSample, isScan, itemOf}
+use Rattle.streams.specs.Raw.{Item, sample, scanned, whole, begun, wrong, isScan, itemOf}
 use Rattle.streams.specs.Steps.{rawRefused, rawHeld, rawTaken, scanHeld, rawByte}
 use Rattle.streams.proofs.Holds.{HoldsLine, holds-empty, holds-some}
 use Rattle.streams.proofs.RawSteps.{by-items, item-sample, item-scan, item-other, item-more, item-whole}
@@ -57,8 +58,8 @@ eight-held (a ∷ b ∷ c ∷ d ∷ e ∷ f ∷ g ∷ []) l = absurd (omega arit
 eight-held (a ∷ b ∷ c ∷ d ∷ e ∷ f ∷ g ∷ h ∷ more) l = refl
 
 -- a scan by its first eight bytes and its last
-abbrev scanBy : ℕ → List ℕ → Form
-scanBy b xs = scan (getD xs 0 0 % 128) (drop 1 xs ++ b ∷ [])
+abbrev scanBy : ℕ → List ℕ → Item
+scanBy b xs = scanned (getD xs 0 0 % 128) (drop 1 xs ++ b ∷ [])
 
 -- a scan's first byte holds the chip
 chip-held : (n f : ℕ) → T (chipCount n) → T (isScan n f) → f % 128 ≡ f - 0x80
@@ -68,16 +69,16 @@ chip-held n f c k =
     let few = count-high n c in
     omega arith
 
-module _ (what : Report) (n : ℕ) (some : chipCount n ≡ true) (ch : Chain) (offset : ℕ) (held : Held) (b : ℕ) where
+module _ (what : Report) (n : ℕ) (some : chipCount n ≡ true) (ch : Chain) (rd : Reader) (offset : ℕ) (held : Held) (b : ℕ) where
   -- the state
   abbrev s : State
-  s = stands n ch offset held
+  s = stands n ch rd offset held
 
   -- ---- the first byte of an item
 
   module _ (p : HoldsLine held []) where
     pub first-sample : isSample b ≡ true
-        → (rawByte what s b ≡ rawTaken what s (samples (b % 8 ∷ []))) × (itemOf n (b ∷ []) ≡ whole (samples (b % 8 ∷ [])))
+        → (rawByte what s b ≡ rawTaken what s (sample b)) × (itemOf n (b ∷ []) ≡ whole (sample b))
     unfolding itemOf
     first-sample y = (by-items what s b some ∙ item-sample what s b (holds-empty p) y, pick-yes _ _ y)
 
@@ -97,7 +98,7 @@ module _ (what : Report) (n : ℕ) (some : chipCount n ≡ true) (ch : Chain) (o
     counted : length h < 8 → held .count ≡ suc (length h)
     counted l = p .count (omega arith)
 
-    of-scan : itemOf n (f ∷ (h ++ b ∷ [])) ≡ pick (ltb (length (h ++ b ∷ [])) 8) begun (whole (scan (f - 0x80) (h ++ b ∷ [])))
+    of-scan : itemOf n (f ∷ (h ++ b ∷ [])) ≡ pick (ltb (length (h ++ b ∷ [])) 8) begun (whole (scanned (f - 0x80) (h ++ b ∷ [])))
     unfolding itemOf Begun
     of-scan = pick-no _ _ (q .0) ∙ pick-yes _ _ (q .1)
 
@@ -115,7 +116,7 @@ module _ (what : Report) (n : ℕ) (some : chipCount n ≡ true) (ch : Chain) (o
         )
 
     pub scan-last : 7 ≤ length h
-        → (rawByte what s b ≡ rawTaken what s (scan (f - 0x80) (h ++ b ∷ []))) × (itemOf n (f ∷ (h ++ b ∷ [])) ≡ whole (scan (f - 0x80) (h ++ b ∷ [])))
+        → (rawByte what s b ≡ rawTaken what s (scanned (f - 0x80) (h ++ b ∷ []))) × (itemOf n (f ∷ (h ++ b ∷ [])) ≡ whole (scanned (f - 0x80) (h ++ b ∷ [])))
     unfolding Begun
     scan-last l =
         let below : length h < 8 = q .2 in
@@ -123,9 +124,9 @@ module _ (what : Report) (n : ℕ) (some : chipCount n ≡ true) (ch : Chain) (o
         let z = p .size in
         let eight : suc (length h) ≡ 8 = omega arith in
         let front : f ∷ h ≡ take 8 (held .bytes) = sym (p .front (omega arith)) ∙ ap (λ m. take m (held .bytes)) eight in
-        let held-as : scanHeld held b ≡ scan (f - 0x80) (h ++ b ∷ []) =
+        let held-as : scanHeld held b ≡ scanned (f - 0x80) (h ++ b ∷ []) =
         ap (scanBy b) (sym (front ∙ eight-held (held .bytes) (omega arith)))
-        ∙ ap (λ m. scan m (h ++ b ∷ [])) (chip-held n f (subst T (sym some) tt) (subst T (sym (q .1)) tt)) in (
+        ∙ ap (λ m. scanned m (h ++ b ∷ [])) (chip-held n f (subst T (sym some) tt) (subst T (sym (q .1)) tt)) in (
           by-items what s b some ∙ item-whole what s b (holds-some f h p) (omega arith) ∙ ap (rawTaken what s) held-as,
           of-scan ∙ pick-no _ _ (le-ltb (length (h ++ b ∷ [])) 8 (omega (arith, more-length))),
         )

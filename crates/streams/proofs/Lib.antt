@@ -1,7 +1,6 @@
 pub mod Cuts
 pub mod Feeding
 pub mod FirstLines
-pub mod Gathered
 pub mod Goes
 pub mod Helds
 pub mod Hex

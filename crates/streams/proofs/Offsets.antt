@@ -17,20 +17,22 @@ use Rattle.chain.specs.declared.Chain.{Chain}
 use Rattle.chain.specs.Chain.{chipCount}
 use Rattle.chain.specs.Entries.{startChain}
 use Rattle.chain.proofs.Tested.{count-high}
-use Rattle.lines.specs.Lines.{newline, ended, linesOf, bytesIn, asHex, lineFor}
+use Rattle.lines.specs.Lines.{newline, ended, linesOf, bytesIn, asHex, lineFor, eightBytes}
 use Rattle.capture.specs.declared.Report.{Report}
 use Rattle.capture.specs.Frames.{other, formOf, firstOf}
 use Rattle.capture.specs.Parts.{outOf}
 use Rattle.capture.specs.Reports.{refusalLine}
 use Rattle.capture.specs.Replay.{taken}
-use Rattle.streams.specs.Raw.{eightBytes, rawRefusal, nextOffset, wrong, isSample, isScan, itemOf, rawFrom}
-use Rattle.streams.specs.Same.{Given, AllGiven, rawOf, frameOf, rawOfAll, textOfAll, rawStream, captureText}
+use Rattle.reads.specs.declared.Reader.{Reader}
+use Rattle.reads.specs.Reads.{startReader, nextOffset, isSample}
+use Rattle.streams.specs.Raw.{Item, itemTaken, rawRefusal, wrong, isScan, itemOf, rawFrom}
+use Rattle.streams.specs.Same.{AllGiven, rawOf, frameOf, rawOfAll, textOfAll, rawStream, captureText}
 use Rattle.streams.specs.Streams.{watchOut}
 use Rattle.streams.specs.Text.{mostLines, longOut}
 use Rattle.streams.proofs.Hex.{line-back, lines-written}
 use Rattle.streams.proofs.Limits.{limited, limited-more, firstLimited, long-first, NoEnd, lines-held}
 use Rattle.streams.proofs.Raws.{raw-more}
-use Rattle.streams.proofs.SameFrames.{saysSo, givenOut, pastBytes, raw-item, raw-given, frame-below, line-form, item-then, first-given, whole-text}
+use Rattle.streams.proofs.SameFrames.{saysSo, givenOut, pastBytes, itemsOut, raw-item, raw-given, frame-below, line-form, item-then, first-given, whole-text}
 
 next-within : (offset : ℕ) → offset + 1 < 2 ^ 64 → nextOffset offset ≡ offset + 1
 next-within offset h = omega arith
@@ -45,31 +47,33 @@ past-within (b ∷ bytes) offset h =
 
 module _ (what : Report) (n : ℕ) (some : chipCount n ≡ true) (b : ℕ) (rest : List ℕ) (plain : isSample b ≡ false) (away : isScan n b ≡ false) where
   -- items from an offset on, and then the byte
-  items-then : (gs : List Given) (ch : Chain) (offset : ℕ) → AllGiven n gs → offset + length (rawOfAll gs) < 2 ^ 64
-      → rawFrom what n offset ch [] (rawOfAll gs ++ b ∷ rest) ≡ givenOut what n ch gs ++ rawRefusal (offset + length (rawOfAll gs))
-  unfolding AllGiven rawOfAll givenOut itemOf
-  items-then [] ch offset all h =
+  items-then : (gs : List Item) (ch : Chain) (rd : Reader) (offset : ℕ) → AllGiven n gs → offset + length (rawOfAll gs) < 2 ^ 64
+      → rawFrom what n offset ch rd [] (rawOfAll gs ++ b ∷ rest) ≡ itemsOut what n offset ch rd gs ++ rawRefusal (offset + length (rawOfAll gs))
+  unfolding AllGiven rawOfAll itemsOut itemOf
+  items-then [] ch rd offset all h =
       let same : offset ≡ offset + 0 = omega arith in
-      raw-more what n some offset ch [] b rest {item = wrong} (pick-no _ _ plain ∙ pick-no _ _ away) ∙ ap rawRefusal same
-  items-then (g ∷ gs) ch offset all h =
-      let t = taken what n ch (saysSo g) in
+      raw-more what n some offset ch rd [] b rest {said = wrong} (pick-no _ _ plain ∙ pick-no _ _ away) ∙ ap rawRefusal same
+  items-then (g ∷ gs) ch rd offset all h =
+      let x = itemTaken what n offset ch rd g in
       let size = length-append (rawOf g) (rawOfAll gs) in
       let past = past-within (rawOf g) offset (omega arith) in
-      let end : pastBytes offset (rawOf g) + length (rawOfAll gs) ≡ offset + length (rawOf g ++ rawOfAll gs) = omega arith in
-      ap (rawFrom what n offset ch []) (append-assoc (rawOf g) (rawOfAll gs) (b ∷ rest))
-      ∙ raw-item what n some g (all .0) ch (rawOfAll gs ++ b ∷ rest) offset
-      ∙ ap (λ x. outOf (t .told) ++ x) (items-then gs (t .state) (pastBytes offset (rawOf g)) (all .1) (omega arith))
-      ∙ ap (λ o. outOf (t .told) ++ (givenOut what n (t .state) gs ++ rawRefusal o)) end
-      ∙ sym (append-assoc (outOf (t .told)) (givenOut what n (t .state) gs) (rawRefusal (offset + length (rawOf g ++ rawOfAll gs))))
+      let next = pastBytes offset (rawOf g) in
+      let end : next + length (rawOfAll gs) ≡ offset + length (rawOf g ++ rawOfAll gs) = omega arith in
+      let left = itemsOut what n next (x .chain) (x .reader) gs in
+      ap (rawFrom what n offset ch rd []) (append-assoc (rawOf g) (rawOfAll gs) (b ∷ rest))
+      ∙ raw-item what n some g (all .0) ch rd (rawOfAll gs ++ b ∷ rest) offset
+      ∙ ap (λ y. x .out ++ y) (items-then gs (x .chain) (x .reader) next (all .1) (omega arith))
+      ∙ ap (λ o. x .out ++ (left ++ rawRefusal o)) end
+      ∙ sym (append-assoc (x .out) left (rawRefusal (offset + length (rawOf g ++ rawOfAll gs))))
 
-  pub raw-refused-at : (gs : List Given) → AllGiven n gs → length (rawStream n gs) < 2 ^ 64
+  pub raw-refused-at : (gs : List Item) → AllGiven n gs → length (rawStream n gs) < 2 ^ 64
       → watchOut what (rawStream n gs ++ b ∷ rest) ≡ watchOut what (rawStream n gs) ++ lineFor (0x1F ∷ 0x0A ∷ eightBytes (length (rawStream n gs)))
   raw-refused-at gs all h =
       let items = rawOfAll gs in
       let place : 3 + length items ≡ length (rawStream n gs) = omega arith in
-      let alone = pick-yes (rawFrom what n 3 startChain [] items) (rawRefusal 2) some ∙ raw-given what n some gs startChain all 3 in
-      pick-yes (rawFrom what n 3 startChain [] (items ++ b ∷ rest)) (rawRefusal 2) some
-      ∙ items-then gs startChain 3 all (omega arith)
+      let alone = pick-yes (rawFrom what n 3 startChain startReader [] items) (rawRefusal 2) some ∙ raw-given what n some gs startChain startReader all 3 in
+      pick-yes (rawFrom what n 3 startChain startReader [] (items ++ b ∷ rest)) (rawRefusal 2) some
+      ∙ items-then gs startChain startReader 3 all (omega arith)
       ∙ ap₂ (λ out o. out ++ rawRefusal o) (sym alone) place
 
 module _ (what : Report) (n : ℕ) (some : chipCount n ≡ true) (cs rest : List ℕ) (one : NoEnd cs) (bad : formOf n (bytesIn (ended cs)) ≡ other) where
@@ -78,7 +82,7 @@ module _ (what : Report) (n : ℕ) (some : chipCount n ≡ true) (cs rest : List
   badLine = cs ++ newline ∷ rest
 
   -- lines from a number on, and then the line
-  lines-then : (gs : List Given) (ch : Chain) (k m : ℕ) → AllGiven n gs → length gs < m
+  lines-then : (gs : List Item) (ch : Chain) (k m : ℕ) → AllGiven n gs → length gs < m
       → limited what n k m ch (linesOf (textOfAll gs ++ badLine)) ≡ givenOut what n ch gs ++ refusalLine 10 (k + length gs)
   unfolding AllGiven textOfAll givenOut
   lines-then gs ch k zero all h = absurd (omega arith)
@@ -98,7 +102,7 @@ module _ (what : Report) (n : ℕ) (some : chipCount n ≡ true) (cs rest : List
       ∙ sym (append-assoc (outOf (t .told)) (givenOut what n (t .state) gs) (refusalLine 10 (k + suc (length gs))))
 
   -- as lines
-  all-then : (gs : List Given) → AllGiven n gs → length gs + 1 < mostLines
+  all-then : (gs : List Item) → AllGiven n gs → length gs + 1 < mostLines
       → longOut what (linesOf (captureText n gs ++ badLine)) ≡ longOut what (linesOf (captureText n gs)) ++ refusalLine 10 (length gs + 2)
   unfolding firstLimited
   all-then gs all h =
@@ -113,7 +117,7 @@ module _ (what : Report) (n : ℕ) (some : chipCount n ≡ true) (cs rest : List
       ∙ lines-then gs startChain 2 0xFFFFFFFE all (omega arith)
       ∙ ap₂ (λ out k. out ++ refusalLine 10 k) (sym (whole-text what n some gs all (omega arith))) number
 
-  pub line-refused-at : (gs : List Given) → AllGiven n gs → length gs + 1 < mostLines
+  pub line-refused-at : (gs : List Item) → AllGiven n gs → length gs + 1 < mostLines
       → watchOut what (captureText n gs ++ (cs ++ newline ∷ rest)) ≡ watchOut what (captureText n gs) ++ refusalLine 10 (length gs + 2)
   unfolding lineFor asHex
   line-refused-at gs all h = all-then gs all h

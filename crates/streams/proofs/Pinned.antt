@@ -1,7 +1,7 @@
 -- The definitions of a stream, tested at every byte or shown at an example.
 --     samples-are                           the samples are 00H to 07H and 10H to 1FH, and no other byte
 --     scans-of-1, scans-of-3, scans-of-8    a scan of one of N chips begins with 80H to 80H + N - 1, and with no other byte
---     levels-plain, levels-dout             a sample's three levels; bit 3, the recorded DOUT, is none of them
+--     sample-plain, sample-dout             a sample's three levels; bit 3, the recorded DOUT, is none of them
 --     scan-begun, scan-whole                a scan has eight bytes after its first
 --     bytes-of-eight, bytes-of-most         a number in eight bytes, high first; the largest
 --     offset-after-most                     the offset after the largest is 0
@@ -14,10 +14,11 @@ use mathlib.Core.Bool.{Bool}
 use mathlib.Core.List.{List, [], _∷_, _++_}
 use Prim.Native.Nat.{ℕ, zero, suc, _+_, _^_}
 use Rattle.base.specs.Pick.{pick}
-use Rattle.lines.specs.Lines.{linesOf, asHex, lineFor}
+use Rattle.lines.specs.Lines.{linesOf, asHex, lineFor, eightBytes}
 use Rattle.capture.specs.declared.Report.{Report}
-use Rattle.capture.specs.Frames.{samples, scan, firstOf}
-use Rattle.streams.specs.Raw.{eightBytes, nextOffset, whole, begun, isSample, isScan, itemOf, rawFrom}
+use Rattle.capture.specs.Frames.{firstOf}
+use Rattle.reads.specs.Reads.{nextOffset, isSample}
+use Rattle.streams.specs.Raw.{sample, scanned, whole, begun, isScan, itemOf, rawFrom}
 use Rattle.streams.specs.Streams.{watchOut}
 use Rattle.streams.specs.Text.{mostLines, longOut}
 
@@ -43,19 +44,19 @@ scans-of-3 = refl
 pub scans-of-8 : passing (isScan 8) 256 ≡ from 0x80 8
 scans-of-8 = refl
 
-pub levels-plain : itemOf 3 (0x05 ∷ []) ≡ whole (samples (5 ∷ []))
+pub sample-plain : itemOf 3 (0x05 ∷ []) ≡ whole (sample 0x05)
 unfolding itemOf
-levels-plain = refl
+sample-plain = refl
 
-pub levels-dout : itemOf 3 (0x1D ∷ []) ≡ whole (samples (5 ∷ []))
+pub sample-dout : itemOf 3 (0x1D ∷ []) ≡ whole (sample 0x1D)
 unfolding itemOf
-levels-dout = refl
+sample-dout = refl
 
 pub scan-begun : itemOf 3 (0x82 ∷ from 1 7) ≡ begun
 unfolding itemOf
 scan-begun = refl
 
-pub scan-whole : itemOf 3 (0x82 ∷ from 1 8) ≡ whole (scan 2 (from 1 8))
+pub scan-whole : itemOf 3 (0x82 ∷ from 1 8) ≡ whole (scanned 2 (from 1 8))
 unfolding itemOf
 scan-whole = refl
 

@@ -7,7 +7,7 @@
 -- Assumes nothing.
 use mathlib.Core.Path.{_≡_, refl, ap, sym, subst, _∙_}
 use mathlib.Core.Bool.{true, false}
-use mathlib.Core.List.{List, [], _∷_}
+use mathlib.Core.List.{List}
 use Prim.Native.Nat.{ℕ, suc, _+_, _*_, _≤_, _<_}
 use native.Mathlib.Nat.{min-le-left}
 use native.Mathlib.Omega.{arith}
@@ -17,27 +17,23 @@ use Rattle.base.proofs.Lists.{rest-is}
 use Rattle.base.proofs.Picks.{pick-yes}
 use Rattle.chain.specs.Chain.{chipCount}
 use Rattle.capture.specs.declared.Report.{Report}
+use Rattle.reads.specs.Parts.{sampleRoom, runLength}
+use Rattle.reads.proofs.Lengths.{run-more, run-length-le}
+use Rattle.reads.proofs.Sampling.{sampled-all-few}
 use Rattle.streams.specs.declared.State.{State}
 use Rattle.streams.specs.declared.Step.{Step}
 use Rattle.streams.specs.declared.samples.Ran.{Ran}
-use Rattle.streams.specs.Parts.{mostWritten, Steps, ran, startsRun, runLength, levelsOf, Runs}
+use Rattle.streams.specs.Parts.{mostWritten, Steps, ran, startsRun, Runs}
 use Rattle.streams.specs.Steps.{rawByte, then, steps}
 use Rattle.streams.proofs.Goes.{next-byte, Goes, goes-start, goes-on, goes-last}
 use Rattle.streams.proofs.RawSteps.{starts-so, raw-run}
-use Rattle.streams.proofs.Rooms.{ran-room, raw-byte-room, raw-room}
-use Rattle.streams.proofs.Runs.{run-more, run-length-le}
-
--- levels are as many as samples
-levels-as-many : (bytes : List ℕ) → length (levelsOf bytes) ≡ length bytes
-unfolding levelsOf
-levels-as-many [] = refl
-levels-as-many (b ∷ bytes) = ap suc (levels-as-many bytes)
+use Rattle.streams.proofs.Rooms.{raw-byte-room, raw-room}
 
 pub record Walked (what : Report) (s₀ : State) (bytes out₀ : List ℕ) (s : State) (at i : ℕ) (out : List ℕ) : Type 0 where
   pub goes : Goes (rawByte what) s₀ bytes out₀ s at i out
   pub few : length bytes ≤ 4096
   pub large : mostWritten ≤ length out₀
-  pub written : at ≤ 168 * i
+  pub written : at ≤ 187 * i
 
 pub walked-start : (what : Report) (s : State) (bytes out : List ℕ) → length bytes ≤ 4096 → mostWritten ≤ length out → Walked what s bytes out s 0 0 out
 walked-start what s bytes out h l = record { goes = goes-start (rawByte what) s bytes out; few = h; large = l; written = omega arith }
@@ -81,12 +77,12 @@ module _ {what : Report} {s₀ : State} {bytes out₀ : List ℕ} {s : State} {a
     run-counted = starts-so s byte starts .0
 
     first-sample : runLength (drop i bytes) ≡ suc (runLength (drop (i + 1) bytes))
-    first-sample = run-more bytes i more (starts-so s byte starts .1 .1) .0
+    first-sample = run-more bytes i more (starts-so s byte starts .1 .1)
 
     pub run-some : 1 ≤ runLength (drop i bytes)
     run-some = omega (arith, first-sample)
 
-    pub run-room : at + 84 * (runLength (drop i bytes) + 1) ≤ length out
+    pub run-room : at + sampleRoom * (runLength (drop i bytes) + 1) ≤ length out
     run-room =
         omega (arith, w .written, w .few, w .large, w .goes .fills .size, run-length-le (drop i bytes), length-drop i bytes)
 
@@ -94,18 +90,18 @@ module _ {what : Report} {s₀ : State} {bytes out₀ : List ℕ} {s : State} {a
         → Walked what s₀ bytes out₀ (r .step .state) (r .step .at) (i + r .count) out′
     walked-run {r} {out′} ran-so =
         let m = r .count in
-        let levels = levelsOf (take m (drop i bytes)) in
+        let run = take m (drop i bytes) in
         let so = starts-so s byte starts in
         let within : m ≤ length (drop i bytes) = omega (arith, ran-so .within, run-length-le (drop i bytes)) in
-        let many : length levels ≤ m = omega (arith, levels-as-many (take m (drop i bytes)), length-take m (drop i bytes), min-le-left m (length (drop i bytes))) in
+        let many : length run ≤ m = omega (arith, length-take m (drop i bytes), min-le-left m (length (drop i bytes))) in
         record {
           goes =
-              goes-on (rawByte what) (w .goes) (ran what s levels) (i + m) (omega (arith, length-drop i bytes))
-              (subst (λ rest. steps (rawByte what) s rest ≡ then (ran what s (levelsOf (take m rest))) (λ next. steps (rawByte what) next (drop m rest))) (sym (rest-is bytes i 0 more))
+              goes-on (rawByte what) (w .goes) (ran what s run) (i + m) (omega (arith, length-drop i bytes))
+              (subst (λ rest. steps (rawByte what) s rest ≡ then (ran what s (take m rest)) (λ next. steps (rawByte what) next (drop m rest))) (sym (rest-is bytes i 0 more))
               (raw-run what m s byte (drop (i + 1) bytes) (ran-so .some) (so .0) (so .1 .0) (so .1 .1) (subst (λ rest. m ≤ runLength rest) (rest-is bytes i 0 more) (ran-so .within)))
-              ∙ ap (λ rest. then (ran what s levels) (λ next. steps (rawByte what) next rest)) (drop-drop m i bytes))
+              ∙ ap (λ rest. then (ran what s run) (λ next. steps (rawByte what) next rest)) (drop-drop m i bytes))
               refl fits (ran-so .step);
           few = w .few;
           large = w .large;
-          written = omega (arith, w .written, ran-so .some, ran-so .step .puts .answer, ran-room what (s .n) levels (s .chain) (so .0));
+          written = omega (arith, w .written, ran-so .some, ran-so .step .puts .answer, sampled-all-few what (s .n) (so .0) (s .place) run (s .chain) (s .reader));
         }

@@ -6,25 +6,24 @@
 -- Assumes nothing.
 use mathlib.Core.Path.{_≡_, refl, ap, ap₂, sym, subst, _∙_}
 use mathlib.Core.Bool.{true, false, _&&_}
-use mathlib.Core.List.{List, [], _∷_, _++_, append-assoc, append-nil}
+use mathlib.Core.List.{List, [], _∷_, _++_, append-assoc}
 use Prim.Native.Nat.{ℕ, zero, suc, _+_, _%_, _^_, _≤_, _<_}
 use native.Mathlib.Omega.{arith}
 use borrow.Author.Tests.{lt-ltb, le-ltb, eq-eqb, ne-eqb, eqb-true}
 use lib.Dec.{T, eqb}
 use lib.ListN.{length, take, drop}
-use Rattle.base.specs.Pick.{pick}
 use Rattle.base.proofs.Picks.{pick-yes, pick-no, pick-cases}
 use Rattle.base.proofs.Tests.{is-true, and-left, and-right}
-use Rattle.chip.specs.Edges.{loadRises}
 use Rattle.chain.specs.declared.Chain.{Chain}
-use Rattle.chain.specs.Chain.{chipCount, steppedChain, played}
+use Rattle.chain.specs.Chain.{chipCount}
 use Rattle.capture.specs.declared.Report.{Report}
-use Rattle.capture.specs.Frames.{samples}
-use Rattle.capture.specs.Reports.{atRise}
-use Rattle.capture.specs.Replay.{risesIn}
+use Rattle.reads.specs.Parts.{runLength}
+use Rattle.reads.specs.declared.Reader.{Reader}
+use Rattle.reads.specs.Reads.{isSample, nextOffset, sampled, sampledAll}
 use Rattle.streams.specs.declared.State.{State}
-use Rattle.streams.specs.Parts.{ran, startsRun, runLength, levelsOf}
-use Rattle.streams.specs.Raw.{isSample, isScan, nextOffset}
+use Rattle.streams.specs.Parts.{ran, startsRun}
+use Rattle.streams.specs.Raw.{isScan}
+use Rattle.streams.specs.Raw.{sample}
 use Rattle.streams.specs.Steps.{Stepped, going, begins, rawRefused, rawHeld, rawTaken, headByte, scanHeld, itemByte, rawByte, then, steps}
 
 -- ---- offsets
@@ -73,7 +72,7 @@ module _ (what : Report) where
   by-head s b e = pick-no _ _ e
 
   module _ (s : State) (b : ℕ) where
-    pub item-sample : s .held .count ≡ 0 → isSample b ≡ true → itemByte what s b ≡ rawTaken what s (samples (b % 8 ∷ []))
+    pub item-sample : s .held .count ≡ 0 → isSample b ≡ true → itemByte what s b ≡ rawTaken what s (sample b)
     item-sample none e = pick-yes _ _ (eq-eqb (s .held .count) 0 none) ∙ pick-yes _ _ e
 
     pub item-scan : s .held .count ≡ 0 → isSample b ≡ false → isScan (s .n) b ≡ true → itemByte what s b ≡ rawHeld s b
@@ -91,56 +90,55 @@ module _ (what : Report) where
   -- ---- samples one after another
 
   -- none
-  ran-none : (n : ℕ) (ch : Chain) (p : ℕ) → p < 2 ^ 64 → ran what (begins n ch p) [] ≡ going (begins n ch p) []
-  unfolding played risesIn
-  ran-none n ch p low = ap (λ q. going (begins n ch q) []) (offset-stays p low)
+  ran-none : (n : ℕ) (ch : Chain) (r : Reader) (p : ℕ) → p < 2 ^ 64 → ran what (begins n ch r p) [] ≡ going (begins n ch r p) []
+  unfolding sampledAll
+  ran-none n ch r p low = ap (λ q. going (begins n ch r q) []) (offset-stays p low)
 
   -- one, and then more
-  ran-more : (n : ℕ) (ch : Chain) (p v : ℕ) (levels : List ℕ) (rest : State → Stepped)
-      → then (rawTaken what (begins n ch p) (samples (v ∷ []))) (λ next. then (ran what (begins n (steppedChain n v ch) (nextOffset p)) levels) rest)
-      ≡ then (ran what (begins n ch p) (v ∷ levels)) rest
-  unfolding played risesIn
-  ran-more n ch p v levels rest =
-      let next = steppedChain n v ch in
-      let rise : List ℕ = pick (loadRises (ch .levels) v) (atRise what n next) [] in
-      let more = risesIn what n levels next in
-      let after : ℕ → Stepped = λ q. rest (begins n (played n levels next) q) in
-      let end = after ((p + suc (length levels)) % 2 ^ 64) in
-      ap (λ q. record { state = after q .state; over = after q .over; out = (rise ++ []) ++ (more ++ after q .out) }) (offset-more p (length levels))
-      ∙ ap (λ xs. record { state = end .state; over = end .over; out = xs })
-      (ap (λ xs. xs ++ (more ++ end .out)) (append-nil rise) ∙ sym (append-assoc rise more (end .out)))
+  ran-more : (n : ℕ) (ch : Chain) (r : Reader) (p b : ℕ) (bytes : List ℕ) (rest : State → Stepped)
+      → then (rawTaken what (begins n ch r p) (sample b))
+      (λ next. then (ran what (begins n (sampled what n p b ch r .chain) (sampled what n p b ch r .reader) (nextOffset p)) bytes) rest)
+      ≡ then (ran what (begins n ch r p) (b ∷ bytes)) rest
+  unfolding sampledAll
+  ran-more n ch r p b bytes rest =
+      let x = sampled what n p b ch r in
+      let more = sampledAll what n (nextOffset p) bytes (x .chain) (x .reader) in
+      let after : ℕ → Stepped = λ q. rest (begins n (more .chain) (more .reader) q) in
+      let end = after ((p + suc (length bytes)) % 2 ^ 64) in
+      ap (λ q. record { state = after q .state; over = after q .over; out = x .out ++ (more .out ++ after q .out) }) (offset-more p (length bytes))
+      ∙ ap (λ xs. record { state = end .state; over = end .over; out = xs }) (sym (append-assoc (x .out) (more .out) (end .out)))
 
   -- a sample at an item's start
-  sample-first : (s : State) (b : ℕ) → chipCount (s .n) ≡ true → s .held .count ≡ 0 → isSample b ≡ true → rawByte what s b ≡ rawTaken what s (samples (b % 8 ∷ []))
+  sample-first : (s : State) (b : ℕ) → chipCount (s .n) ≡ true → s .held .count ≡ 0 → isSample b ≡ true → rawByte what s b ≡ rawTaken what s (sample b)
   sample-first s b count none e = by-items s b count ∙ item-sample s b none e
 
   -- some of the samples that stand first
-  run-steps : (m n : ℕ) (ch : Chain) (p : ℕ) (bytes : List ℕ) → chipCount n ≡ true → p < 2 ^ 64 → m ≤ runLength bytes
-      → steps (rawByte what) (begins n ch p) bytes ≡ then (ran what (begins n ch p) (levelsOf (take m bytes))) (λ next. steps (rawByte what) next (drop m bytes))
-  unfolding steps runLength levelsOf played
-  run-steps zero n ch p bytes count low few = sym (ap (λ x. then x (λ next. steps (rawByte what) next bytes)) (ran-none n ch p low))
-  run-steps (suc m) n ch p [] count low few = absurd (omega arith)
-  run-steps (suc m) n ch p (b ∷ bytes) count low few =
-      let s = begins n ch p in
-      let v = b % 8 in
+  run-steps : (m n : ℕ) (ch : Chain) (r : Reader) (p : ℕ) (bytes : List ℕ) → chipCount n ≡ true → p < 2 ^ 64 → m ≤ runLength bytes
+      → steps (rawByte what) (begins n ch r p) bytes ≡ then (ran what (begins n ch r p) (take m bytes)) (λ next. steps (rawByte what) next (drop m bytes))
+  unfolding steps runLength
+  run-steps zero n ch r p bytes count low few = sym (ap (λ x. then x (λ next. steps (rawByte what) next bytes)) (ran-none n ch r p low))
+  run-steps (suc m) n ch r p [] count low few = absurd (omega arith)
+  run-steps (suc m) n ch r p (b ∷ bytes) count low few =
+      let s = begins n ch r p in
+      let x = sampled what n p b ch r in
       pick-cases
       (λ k. suc m ≤ k
-      → steps (rawByte what) s (b ∷ bytes) ≡ then (ran what s (levelsOf (take (suc m) (b ∷ bytes)))) (λ next. steps (rawByte what) next (drop (suc m) (b ∷ bytes))))
+      → steps (rawByte what) s (b ∷ bytes) ≡ then (ran what s (take (suc m) (b ∷ bytes))) (λ next. steps (rawByte what) next (drop (suc m) (b ∷ bytes))))
       (isSample b) {x = suc (runLength bytes)} {y = 0}
-      (λ e l. ap (λ x. then x (λ next. steps (rawByte what) next bytes)) (sample-first s b count refl e)
-      ∙ ap (λ y. then (rawTaken what s (samples (v ∷ []))) (λ next. y)) (run-steps m n (steppedChain n v ch) (nextOffset p) bytes count (offset-low p) (omega arith))
-      ∙ ran-more n ch p v (levelsOf (take m bytes)) (λ next. steps (rawByte what) next (drop m bytes)))
+      (λ e l. ap (λ y. then y (λ next. steps (rawByte what) next bytes)) (sample-first s b count refl e)
+      ∙ ap (λ y. then (rawTaken what s (sample b)) (λ next. y)) (run-steps m n (x .chain) (x .reader) (nextOffset p) bytes count (offset-low p) (omega arith))
+      ∙ ran-more n ch r p b (take m bytes) (λ next. steps (rawByte what) next (drop m bytes)))
       (λ e l. absurd (omega arith)) few
 
   -- samples from an item's start on
   pub raw-run : (m : ℕ) (s : State) (b : ℕ) (bytes : List ℕ) → 1 ≤ m → chipCount (s .n) ≡ true → s .held .count ≡ 0 → isSample b ≡ true → m ≤ runLength (b ∷ bytes)
-      → steps (rawByte what) s (b ∷ bytes) ≡ then (ran what s (levelsOf (take m (b ∷ bytes)))) (λ next. steps (rawByte what) next (drop m (b ∷ bytes)))
-  unfolding steps runLength levelsOf played
+      → steps (rawByte what) s (b ∷ bytes) ≡ then (ran what s (take m (b ∷ bytes))) (λ next. steps (rawByte what) next (drop m (b ∷ bytes)))
+  unfolding steps runLength
   raw-run zero s b bytes some count none e few = absurd (omega arith)
   raw-run (suc m) s b bytes some count none e few =
-      let v = b % 8 in
+      let x = sampled what (s .n) (s .place) b (s .chain) (s .reader) in
       let more : runLength (b ∷ bytes) ≡ suc (runLength bytes) = pick-yes _ _ e in
-      ap (λ x. then x (λ next. steps (rawByte what) next bytes)) (sample-first s b count none e)
-      ∙ ap (λ y. then (rawTaken what s (samples (v ∷ []))) (λ next. y))
-      (run-steps m (s .n) (steppedChain (s .n) v (s .chain)) (nextOffset (s .place)) bytes count (offset-low (s .place)) (omega (arith, more)))
-      ∙ ran-more (s .n) (s .chain) (s .place) v (levelsOf (take m bytes)) (λ next. steps (rawByte what) next (drop m bytes))
+      ap (λ y. then y (λ next. steps (rawByte what) next bytes)) (sample-first s b count none e)
+      ∙ ap (λ y. then (rawTaken what s (sample b)) (λ next. y))
+      (run-steps m (s .n) (x .chain) (x .reader) (nextOffset (s .place)) bytes count (offset-low (s .place)) (omega (arith, more)))
+      ∙ ran-more (s .n) (s .chain) (s .reader) (s .place) b (take m bytes) (λ next. steps (rawByte what) next (drop m bytes))

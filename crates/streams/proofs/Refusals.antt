@@ -6,7 +6,8 @@ use mathlib.Core.List.{_∷_}
 use Prim.Native.Nat.{ℕ}
 use lib.ListN.{length}
 use Rattle.lines.proofs.Puts.{line-for-length}
-use Rattle.streams.specs.Raw.{eightBytes, rawRefusal}
+use Rattle.lines.specs.Lines.{eightBytes}
+use Rattle.streams.specs.Raw.{rawRefusal}
 
 pub raw-refusal-length : (offset : ℕ) → length (rawRefusal offset) ≡ 21
 raw-refusal-length offset = line-for-length (0x1F ∷ 0x0A ∷ eightBytes offset)

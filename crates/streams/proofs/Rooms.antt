@@ -1,6 +1,5 @@
 -- What a block writes always fits: bounds that depend on its length alone.
---     raw-byte-room, raw-room       a raw stream: at most 168 bytes for each of its own
---     ran-room                      a run of samples
+--     raw-byte-room, raw-room       a raw stream: at most 187 bytes for each of its own
 --     held-few                      a line that is held has at most 33 bytes
 --     text-room                     a text: at most 84 for each of its own and of the line that is held, and a refusal
 -- Assumes nothing.
@@ -26,54 +25,51 @@ use Rattle.capture.specs.declared.Report.{Report}
 use Rattle.capture.specs.Frames.{formOf, firstOf}
 use Rattle.capture.specs.Parts.{outOf}
 use Rattle.capture.specs.Reports.{atScan}
-use Rattle.capture.specs.Replay.{risesIn, taken}
+use Rattle.capture.specs.Replay.{taken}
 use Rattle.capture.proofs.Reported.{refusal-length}
-use Rattle.capture.proofs.Room.{rises-room, at-scan-room, form-room}
+use Rattle.capture.proofs.Room.{at-scan-room, form-room}
 use Rattle.capture.proofs.Taken.{width-most}
+use Rattle.reads.specs.Reads.{isSample}
+use Rattle.reads.proofs.Sampling.{sampled-few}
 use Rattle.streams.specs.declared.State.{State}
 use Rattle.streams.specs.declared.held.Held.{Held}
 use Rattle.streams.specs.Held.{grownOne, lineHeld}
-use Rattle.streams.specs.Raw.{isSample, isScan}
+use Rattle.streams.specs.Raw.{isScan}
 use Rattle.streams.specs.Steps.{Stepped, holding, firstTaken, laterTaken, lineEnded, textByte, rawByte, itemByte, headByte, then, steps}
 use Rattle.streams.proofs.Refusals.{raw-refusal-length}
 
 -- ---- a raw stream
 
-pub ran-room : (what : Report) (n : ℕ) (levels : List ℕ) (ch : Chain) → chipCount n ≡ true → length (risesIn what n levels ch) ≤ 84 * (length levels + 1)
-ran-room what n levels ch count =
-    let few = count-high n (subst T (sym count) tt) in
-    omega (arith, rises-room what n levels ch few, mul-le-mul-right (length levels + 1) (width-most what))
-
 module _ (what : Report) where
-  scan-room : (k : ℕ) (bytes : List ℕ) (c : Chip) → length (atScan what k bytes c) ≤ 168
+  scan-room : (k : ℕ) (bytes : List ℕ) (c : Chip) → length (atScan what k bytes c) ≤ 187
   scan-room k bytes c = omega (arith, at-scan-room what k bytes c, width-most what)
 
-  item-room : (s : State) (b : ℕ) → chipCount (s .n) ≡ true → length (itemByte what s b .out) ≤ 168
+  item-room : (s : State) (b : ℕ) → chipCount (s .n) ≡ true → length (itemByte what s b .out) ≤ 187
   item-room s b count =
-      pick-cases (λ (x : Stepped). length (x .out) ≤ 168) (eqb (s .held .count) 0)
-      (λ _. pick-cases (λ (x : Stepped). length (x .out) ≤ 168) (isSample b) (λ _. ran-room what (s .n) (b % 8 ∷ []) (s .chain) count)
-      (λ _. pick-cases (λ (x : Stepped). length (x .out) ≤ 168) (isScan (s .n) b) (λ _. omega arith) (λ _. omega (arith, raw-refusal-length (s .place)))))
-      (λ _. pick-cases (λ (x : Stepped). length (x .out) ≤ 168) (ltb (s .held .count) 8) (λ _. omega arith)
+      pick-cases (λ (x : Stepped). length (x .out) ≤ 187) (eqb (s .held .count) 0)
+      (λ _. pick-cases (λ (x : Stepped). length (x .out) ≤ 187) (isSample b) (λ _. sampled-few what (s .n) count (s .place) b (s .chain) (s .reader))
+      (λ _. pick-cases (λ (x : Stepped). length (x .out) ≤ 187) (isScan (s .n) b) (λ _. omega arith) (λ _. omega (arith, raw-refusal-length (s .place)))))
+      (λ _. pick-cases (λ (x : Stepped). length (x .out) ≤ 187) (ltb (s .held .count) 8) (λ _. omega arith)
       (λ _. scan-room _ _ _))
 
-  head-room : (s : State) (b : ℕ) → length (headByte s b .out) ≤ 168
+  head-room : (s : State) (b : ℕ) → length (headByte s b .out) ≤ 187
   head-room s b =
-      pick-cases (λ (x : Stepped). length (x .out) ≤ 168) (ltb (s .held .count) 2)
-      (λ _. pick-cases (λ (x : Stepped). length (x .out) ≤ 168) (eqb b (s .held .count)) (λ _. omega arith) (λ _. omega (arith, raw-refusal-length (s .place))))
-      (λ _. pick-cases (λ (x : Stepped). length (x .out) ≤ 168) (chipCount b) (λ _. omega arith) (λ _. omega (arith, raw-refusal-length (s .place))))
+      pick-cases (λ (x : Stepped). length (x .out) ≤ 187) (ltb (s .held .count) 2)
+      (λ _. pick-cases (λ (x : Stepped). length (x .out) ≤ 187) (eqb b (s .held .count)) (λ _. omega arith) (λ _. omega (arith, raw-refusal-length (s .place))))
+      (λ _. pick-cases (λ (x : Stepped). length (x .out) ≤ 187) (chipCount b) (λ _. omega arith) (λ _. omega (arith, raw-refusal-length (s .place))))
 
-  pub raw-byte-room : (s : State) (b : ℕ) → length (rawByte what s b .out) ≤ 168
+  pub raw-byte-room : (s : State) (b : ℕ) → length (rawByte what s b .out) ≤ 187
   unfolding rawByte
-  raw-byte-room s b = pick-cases (λ (x : Stepped). length (x .out) ≤ 168) (chipCount (s .n)) (λ e. item-room s b e) (λ _. head-room s b)
+  raw-byte-room s b = pick-cases (λ (x : Stepped). length (x .out) ≤ 187) (chipCount (s .n)) (λ e. item-room s b e) (λ _. head-room s b)
 
-  pub raw-room : (s : State) (bytes : List ℕ) → length (steps (rawByte what) s bytes .out) ≤ 168 * length bytes
+  pub raw-room : (s : State) (bytes : List ℕ) → length (steps (rawByte what) s bytes .out) ≤ 187 * length bytes
   unfolding steps
   raw-room s [] = omega arith
   raw-room s (b ∷ bytes) =
       let x = rawByte what s b in
       let one = raw-byte-room s b in
       let more = raw-room (x .state) bytes in
-      pick-cases (λ (y : Stepped). length (y .out) ≤ 168 * length (b ∷ bytes)) (x .over) (λ _. omega arith)
+      pick-cases (λ (y : Stepped). length (y .out) ≤ 187 * length (b ∷ bytes)) (x .over) (λ _. omega arith)
       (λ _. omega (arith, length-append (x .out) (steps (rawByte what) (x .state) bytes .out)))
 
 -- ---- a text: a line that ends

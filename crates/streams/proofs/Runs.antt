@@ -1,85 +1,36 @@
--- Samples one after another in a raw stream: how many there are, and their levels.
---     sample-low, sample-high                the test of one byte
---     run-here, run-more, run-over           the samples from a place on: none here, one and those after it, the block's end
---     run-length-le, levels-length           how many there can be
---     plain-more, plain-here, plain-over     the samples without DOUT from a place on
---     plain-length-le, plain-run, plain-levels     how many there can be; they are samples, and their own levels
---     Gathers, gathers-start, gathers-more, gathers-end     the loop that gathers them
+-- Samples without DOUT in a raw stream: how many there are from a place on, and that they were played.
+--     plain-more, plain-here, plain-over     from a place on: one and those after it, none here, the block's end
+--     plain-length-le, plain-run, plain-low  how many there can be; they are samples, below 8
+--     plain-fits, plain-few, plain-all, plain-played     a stretch of them
+--     rest-run, run-rest, looked-run         the samples that stand first, played with the looks before them
 -- Assumes nothing.
-use mathlib.Core.Path.{_≡_, refl, ap, ap₂, sym, subst, _∙_}
-use mathlib.Core.Bool.{true, false}
+use mathlib.Core.Path.{_≡_, ap, ap₂, sym, subst, _∙_}
+use mathlib.Core.Bool.{true, false, _&&_}
 use mathlib.Core.List.{List, [], _∷_}
-use Prim.Native.Nat.{ℕ, suc, _+_, _/_, _%_, _≤_, _<_}
+use Prim.Native.Nat.{ℕ, suc, _+_, _*_, _-_, _%_, _^_, _≤_, _<_}
+use native.Mathlib.Nat.{min-le-left}
 use native.Mathlib.Omega.{arith}
-use borrow.Author.Tests.{lt-ltb, le-ltb, ltb-true}
-use lib.Dec.{eqb, ltb}
-use lib.ListN.{length, getD, set, take, drop, drop-of-length-le, length-drop}
-use Rattle.base.specs.Lent.{laid}
-use Rattle.base.proofs.Lent.{Fills, fills-start, fills-more, fills-over}
+use borrow.Author.Tests.{lt-ltb, le-ltb, ltb-true, le-leb}
+use lib.Dec.{ltb}
+use lib.ListN.{length, getD, take, drop, drop-of-length-le, length-drop, length-take}
+use lib.Seq.{take-all}
+use Rattle.base.specs.Below.{AllBelow}
 use Rattle.base.proofs.Lists.{rest-is}
 use Rattle.base.proofs.Picks.{pick-yes, pick-no, pick-cases}
-use Rattle.base.proofs.Stores.{one-put}
-use Rattle.streams.specs.Parts.{runLength, plainLength, levelsOf}
-use Rattle.streams.specs.Raw.{isSample}
+use Rattle.chain.specs.Chain.{chipCount}
+use Rattle.capture.specs.declared.Report.{Report}
+use Rattle.reads.specs.declared.Ran.{Ran}
+use Rattle.reads.specs.Parts.{sampleRoom, runLength, firstOf, RunsFirst}
+use Rattle.reads.proofs.Lengths.{run-take}
+use Rattle.streams.specs.declared.State.{State}
+use Rattle.streams.specs.declared.Step.{Step}
+use Rattle.streams.specs.declared.held.Held.{Held}
+use Rattle.streams.specs.declared.samples.Ran as Samples
+use Rattle.streams.specs.Held.{noneHeld}
+use Rattle.streams.specs.Parts.{Steps, ran, plainLength, Runs}
+use Rattle.streams.proofs.Stepping.{looks-made}
 
--- ---- one byte
-
-pub sample-low : (b : ℕ) → b < 0x08 → true ≡ isSample b
-sample-low b h = sym (pick-yes _ _ (lt-ltb b 0x08 h))
-
-pub sample-high : (b : ℕ) → 0x08 ≤ b → eqb (b / 16) 1 ≡ isSample b
-sample-high b h = sym (pick-no _ _ (le-ltb b 0x08 h))
-
--- ---- samples from a place on
-
--- the levels of the samples that stand first
-abbrev pub levelsFirst : List ℕ → List ℕ
-levelsFirst bytes = levelsOf (take (runLength bytes) bytes)
-
-run-next : (b : ℕ) (bytes : List ℕ) → isSample b ≡ true → (runLength (b ∷ bytes) ≡ suc (runLength bytes)) × (levelsFirst (b ∷ bytes) ≡ b % 8 ∷ levelsFirst bytes)
-unfolding runLength levelsOf
-run-next b bytes e =
-    let more : runLength (b ∷ bytes) ≡ suc (runLength bytes) = pick-yes _ _ e in
-    (more, ap (λ m. levelsOf (take m (b ∷ bytes))) more)
-
-run-none : (b : ℕ) (bytes : List ℕ) → isSample b ≡ false → (runLength (b ∷ bytes) ≡ 0) × (levelsFirst (b ∷ bytes) ≡ [])
-unfolding runLength levelsOf
-run-none b bytes e =
-    let none : runLength (b ∷ bytes) ≡ 0 = pick-no _ _ e in
-    (none, ap (λ m. levelsOf (take m (b ∷ bytes))) none)
-
-module _ (bytes : List ℕ) (i : ℕ) where
-  pub run-more : i < length bytes → isSample (getD bytes i 0) ≡ true
-      → (runLength (drop i bytes) ≡ suc (runLength (drop (i + 1) bytes))) × (levelsFirst (drop i bytes) ≡ getD bytes i 0 % 8 ∷ levelsFirst (drop (i + 1) bytes))
-  run-more h e =
-      let rest = rest-is bytes i 0 h in
-      let next = run-next (getD bytes i 0) (drop (i + 1) bytes) e in
-      (ap runLength rest ∙ next .0, ap levelsFirst rest ∙ next .1)
-
-  pub run-here : i < length bytes → isSample (getD bytes i 0) ≡ false → (runLength (drop i bytes) ≡ 0) × (levelsFirst (drop i bytes) ≡ [])
-  run-here h e =
-      let rest = rest-is bytes i 0 h in
-      let none = run-none (getD bytes i 0) (drop (i + 1) bytes) e in
-      (ap runLength rest ∙ none .0, ap levelsFirst rest ∙ none .1)
-
-  pub run-over : length bytes ≤ i → (runLength (drop i bytes) ≡ 0) × (levelsFirst (drop i bytes) ≡ [])
-  unfolding runLength levelsOf
-  run-over h = let none = drop-of-length-le bytes h in (ap runLength none, ap levelsFirst none)
-
-pub levels-length : (bytes : List ℕ) → length (levelsFirst bytes) ≡ runLength bytes
-unfolding runLength levelsOf
-levels-length [] = refl
-levels-length (b ∷ bytes) =
-    pick-cases (λ m. length (levelsOf (take m (b ∷ bytes))) ≡ m) (isSample b) (λ _. ap suc (levels-length bytes)) (λ _. refl)
-
-pub run-length-le : (bytes : List ℕ) → runLength bytes ≤ length bytes
-unfolding runLength
-run-length-le [] = omega arith
-run-length-le (b ∷ bytes) =
-    let more = run-length-le bytes in
-    pick-cases (λ m. m ≤ length (b ∷ bytes)) (isSample b) (λ _. omega arith) (λ _. omega arith)
-
--- ---- samples without DOUT
+-- ---- from a place on
 
 module _ (bytes : List ℕ) (i : ℕ) where
   pub plain-more : i < length bytes → getD bytes i 0 < 0x08 → plainLength (drop i bytes) ≡ suc (plainLength (drop (i + 1) bytes))
@@ -103,60 +54,76 @@ plain-length-le (b ∷ bytes) =
 
 -- they are samples
 pub plain-run : (bytes : List ℕ) → plainLength bytes ≤ runLength bytes
-unfolding plainLength
+unfolding plainLength runLength
 plain-run [] = omega arith
 plain-run (b ∷ bytes) =
     let more = plain-run bytes in
     pick-cases (λ m. m ≤ runLength (b ∷ bytes)) (ltb b 0x08)
-    (λ e. omega (arith, run-next b bytes (sym (sample-low b (ltb-true b 0x08 e))) .0))
+    (λ e. let one : runLength (b ∷ bytes) ≡ suc (runLength bytes) = pick-yes _ _ (pick-yes _ _ e) in
+    omega arith)
     (λ _. omega arith)
 
--- and their own levels
-pub plain-levels : (bytes : List ℕ) → levelsOf (take (plainLength bytes) bytes) ≡ take (plainLength bytes) bytes
-unfolding plainLength levelsOf
-plain-levels [] = refl
-plain-levels (b ∷ bytes) =
-    pick-cases (λ m. levelsOf (take m (b ∷ bytes)) ≡ take m (b ∷ bytes)) (ltb b 0x08)
-    (λ e. let low = ltb-true b 0x08 e in
-    let same : b % 8 ≡ b = omega arith in
-    ap₂ (λ x xs. x ∷ xs) same (plain-levels bytes))
-    (λ _. refl)
+-- and below 8
+pub plain-low : (bytes : List ℕ) → AllBelow 8 (take (plainLength bytes) bytes)
+unfolding plainLength
+plain-low [] = tt
+plain-low (b ∷ bytes) =
+    pick-cases (λ m. AllBelow 8 (take m (b ∷ bytes))) (ltb b 0x08) (λ e. (ltb-true b 0x08 e, plain-low bytes)) (λ _. tt)
 
--- ---- the loop that gathers them
+-- ---- a stretch of them, played as they stand
 
-pub record Gathers (bytes : List ℕ) (from : ℕ) (run₀ run : List ℕ) (i count : ℕ) : Type 0 where
-  pub all : count + runLength (drop i bytes) ≡ runLength (drop from bytes)
-  pub few : count ≤ i
-  pub fills : Fills 0 (levelsFirst (drop from bytes)) run₀ count (levelsFirst (drop i bytes)) run
+module _ (bytes : List ℕ) (from end : ℕ) (here : end ≡ from + plainLength (drop from bytes)) where
+  abbrev rest : List ℕ
+  rest = drop from bytes
 
-pub gathers-start : (bytes : List ℕ) (from : ℕ) (run : List ℕ) → Gathers bytes from run run from 0
-gathers-start bytes from run =
-    record { all = omega arith; few = omega arith; fills = fills-start 0 (levelsFirst (drop from bytes)) run }
+  counts : end - from ≡ plainLength rest
+  counts = omega arith
 
-module _ {bytes : List ℕ} {from : ℕ} {run₀ run : List ℕ} {i count : ℕ} (g : Gathers bytes from run₀ run i count) where
-  -- there is room for all
-  pub gathers-room : length bytes ≤ length run₀ → 0 + length (levelsFirst (drop from bytes)) ≤ length run₀
-  gathers-room h =
-      omega (arith, levels-length (drop from bytes), run-length-le (drop from bytes), length-drop from bytes)
+  pub plain-fits : from ≤ length bytes → end ≤ length bytes
+  plain-fits h = omega (arith, plain-length-le rest, length-drop from bytes)
 
-  pub gathers-more : i < length bytes → length bytes ≤ length run₀ → isSample (getD bytes i 0) ≡ true
-      → Gathers bytes from run₀ (set run count (getD bytes i 0 % 8)) (i + 1) (count + 1)
-  gathers-more h room e =
-      let next = run-more bytes i h e in
-      let level = getD bytes i 0 % 8 in
+  pub plain-few : length (take (end - from) rest) ≤ runLength rest
+  plain-few = omega (arith, counts, plain-run rest, length-take (end - from) rest, min-le-left (end - from) (length rest))
+
+  pub plain-all : AllBelow 8 (take (end - from) rest)
+  plain-all = subst (λ m. AllBelow 8 (take m rest)) (sym counts) (plain-low rest)
+
+  pub plain-played : {what : Report} {s : State} {at : ℕ} {out out′ : List ℕ} {step : Step} → (end ≡ from → ⊥)
+      → Steps (ran what s (take (end - from) rest)) at out step out′
+      → Runs what s rest at out (record { step = step; count = end - from }) out′
+  plain-played some made = record { some = omega arith; within = omega (arith, counts, plain-run rest); step = made }
+
+-- ---- the samples that stand first, with the looks before them
+
+-- the part from a place on
+module _ (bytes : List ℕ) (from : ℕ) where
+  part-all : take (length bytes - from) (drop from bytes) ≡ drop from bytes
+  part-all = take-all (length bytes - from) (drop from bytes) (omega (arith, length-drop from bytes))
+
+  pub rest-run : (at : ℕ) (out : List ℕ) → 1 ≤ runLength (drop from bytes) → at + sampleRoom * (runLength (drop from bytes) + 1) ≤ length out
+      → (1 ≤ runLength (take (length bytes - from) (drop from bytes))) × (at + sampleRoom * runLength (take (length bytes - from) (drop from bytes)) ≤ length out)
+  rest-run at out some room = (omega (arith, ap runLength part-all), omega (arith, ap runLength part-all))
+
+  pub run-rest : {what : Report} {s : State} {at : ℕ} {out out′ : List ℕ} {r : Samples.Ran} → Runs what s (take (length bytes - from) (drop from bytes)) at out r out′
+      → Runs what s (drop from bytes) at out r out′
+  run-rest {what} {s} {at} {out} {out′} {r} made = subst (λ xs. Runs what s xs at out r out′) part-all made
+
+module _ (what : Report) (s : State) (bytes : List ℕ) (at : ℕ) (out : List ℕ) (count : chipCount (s .n) ≡ true) (some : 1 ≤ runLength bytes)
+    (room : at + sampleRoom * runLength bytes ≤ length out) where
+  first-all : firstOf (s .n) bytes at out ≡ take (runLength bytes) bytes
+  first-all = pick-yes _ _ (ap₂ _&&_ count (le-leb (at + sampleRoom * runLength bytes) (length out) room))
+
+  pub looked-run : {r : Ran} {out′ : List ℕ} → RunsFirst what (s .n) (s .place) (firstOf (s .n) bytes at out) (s .chain) (s .reader) at out r out′
+      → {place : ℕ} → place ≡ (s .place + r .count) % 2 ^ 64
+      → {held : Held} → held ≡ noneHeld
+      → Runs what s bytes at out
+      (record { step = record { state = record { n = s .n; chain = r .chain; place = place; held = held; reader = r .reader }; over = false; at = r .at }; count = r .count }) out′
+  looked-run {r} {out′} made {place} p {held} h =
+      let first = subst (λ xs. RunsFirst what (s .n) (s .place) xs (s .chain) (s .reader) at out r out′) first-all made in
+      let all : r .count ≡ runLength bytes = first .counts ∙ run-take bytes in
+      let step : Step = record { state = record { n = s .n; chain = r .chain; place = place; held = held; reader = r .reader }; over = false; at = r .at } in
       record {
-        all = omega (arith, next .0, g .all);
-        few = omega (arith, g .few);
-        fills =
-            fills-more (level ∷ []) (levelsFirst (drop (i + 1) bytes))
-            (subst (λ rest. Fills 0 (levelsFirst (drop from bytes)) run₀ count rest run) (next .1) (g .fills))
-            (gathers-room room) refl (one-put run count level (omega (arith, g .few, g .fills .size)));
+        some = omega arith;
+        within = omega arith;
+        step = subst (λ m. Steps (ran what s (take m bytes)) at out step out′) (sym all) (looks-made what s (take (runLength bytes) bytes) first p h);
       }
-
-  -- nothing is left
-  pub gathers-end : (runLength (drop i bytes) ≡ 0) × (levelsFirst (drop i bytes) ≡ [])
-      → (count ≡ runLength (drop from bytes)) × (run ≡ laid (levelsOf (take count (drop from bytes))) run₀)
-  gathers-end none =
-      let same : count ≡ runLength (drop from bytes) = omega (arith, none .0, g .all) in
-      let f = fills-over (subst (λ rest. Fills 0 (levelsFirst (drop from bytes)) run₀ count rest run) (none .1) (g .fills)) in
-      (same, f .1 ∙ ap (λ m. laid (levelsOf (take m (drop from bytes))) run₀) (sym same))

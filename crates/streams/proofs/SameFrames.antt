@@ -1,8 +1,9 @@
--- A raw stream whose items may all stand there writes what the capture text of the same frames writes.
+-- A raw stream whose items may all stand there, without a recorded DOUT, writes what the capture text of the same frames writes.
 --     saysSo                  what an item says
---     givenOut, linesOfAll    what items write, one after another; a line for each
---     pastBytes, raw-item     the offset past bytes; what one item writes, and then the rest, from the offset past it on
---     raw-given               the raw stream writes what its items write, one after another
+--     givenOut, linesOfAll    what items write in a text, one after another; a line for each
+--     pastBytes, itemsOut     the offset past bytes; what items write in a raw stream, from an offset on
+--     raw-item, raw-given     what one item writes, and then the rest, from the offset past it on; and all items
+--     plain-given             without a recorded DOUT they write what they write in a text
 --     frame-below, line-form  an item's line is of bytes, and of its form
 --     item-then               what an item's form says is done
 --     text-given              and so does the capture text
@@ -21,16 +22,19 @@ use Rattle.base.specs.Below.{AllBelow}
 use Rattle.base.specs.Refusals.{done}
 use Rattle.base.proofs.Picks.{pick-yes, pick-no}
 use Rattle.chain.specs.declared.Chain.{Chain}
-use Rattle.chain.specs.Chain.{chipCount, checkedFrom}
+use Rattle.chain.specs.Chain.{chipCount, checkedFrom, played}
 use Rattle.chain.specs.Entries.{startChain}
 use Rattle.chain.proofs.Tested.{count-high}
 use Rattle.lines.specs.Lines.{Line, ended, linesOf, bytesIn, asHex, lineFor}
 use Rattle.capture.specs.declared.Report.{Report}
 use Rattle.capture.specs.Frames.{Form, samples, scan, samplesBy, formOf, firstOf}
 use Rattle.capture.specs.Parts.{outOf}
-use Rattle.capture.specs.Replay.{taken, andThen, linesOut, afterFirst}
-use Rattle.streams.specs.Raw.{whole, begun, isSample, isScan, itemOf, rawFrom, nextOffset}
-use Rattle.streams.specs.Same.{Given, sampled, scanned, IsGiven, AllGiven, rawOf, frameOf, rawOfAll, textOfAll, rawStream, captureText}
+use Rattle.capture.specs.Replay.{risesIn, taken, andThen, linesOut, afterFirst}
+use Rattle.reads.specs.declared.Reader.{Reader}
+use Rattle.reads.specs.Reads.{looking, startReader, Sampled, sampled, isSample, nextOffset}
+use Rattle.reads.proofs.Plain.{plain-sample}
+use Rattle.streams.specs.Raw.{Item, sample, scanned, itemTaken, whole, begun, isScan, itemOf, rawFrom}
+use Rattle.streams.specs.Same.{IsGiven, AllGiven, AllPlain, rawOf, frameOf, rawOfAll, textOfAll, rawStream, captureText}
 use Rattle.streams.specs.Streams.{watchOut}
 use Rattle.streams.specs.Text.{mostLines, longOut}
 use Rattle.streams.proofs.Hex.{line-back, lines-written}
@@ -38,24 +42,31 @@ use Rattle.streams.proofs.Limits.{long-within}
 use Rattle.streams.proofs.Raws.{raw-more}
 
 -- what an item says
-abbrev pub saysSo : Given → Form
-saysSo (sampled b) = samples (b % 8 ∷ [])
+abbrev pub saysSo : Item → Form
+saysSo (sample b) = samples (b % 8 ∷ [])
 saysSo (scanned k bytes) = scan k bytes
 
 -- what items write, one after another
-unfoldable pub givenOut : Report → ℕ → Chain → List Given → List ℕ
+unfoldable pub givenOut : Report → ℕ → Chain → List Item → List ℕ
 givenOut what n ch [] = []
 givenOut what n ch (g ∷ gs) = outOf (taken what n ch (saysSo g) .told) ++ givenOut what n (taken what n ch (saysSo g) .state) gs
-
--- a line for each item
-unfoldable pub linesOfAll : List Given → List Line
-linesOfAll [] = []
-linesOfAll (g ∷ gs) = ended (asHex (frameOf g)) ∷ linesOfAll gs
 
 -- the offset past bytes
 unfoldable pub pastBytes : ℕ → List ℕ → ℕ
 pastBytes offset [] = offset
 pastBytes offset (b ∷ bytes) = pastBytes (nextOffset offset) bytes
+
+-- what items of a raw stream write, from an offset on
+unfoldable pub itemsOut : Report → ℕ → ℕ → Chain → Reader → List Item → List ℕ
+itemsOut what n offset ch rd [] = []
+itemsOut what n offset ch rd (g ∷ gs) =
+    let x = itemTaken what n offset ch rd g in
+    x .out ++ itemsOut what n (pastBytes offset (rawOf g)) (x .chain) (x .reader) gs
+
+-- a line for each item
+unfoldable pub linesOfAll : List Item → List Line
+linesOfAll [] = []
+linesOfAll (g ∷ gs) = ended (asHex (frameOf g)) ∷ linesOfAll gs
 
 module _ (what : Report) (n : ℕ) (some : chipCount n ≡ true) where
   few : n ≤ 8
@@ -64,11 +75,11 @@ module _ (what : Report) (n : ℕ) (some : chipCount n ≡ true) where
   -- ---- the raw stream
 
   -- a sample
-  raw-sample : (b : ℕ) → isSample b ≡ true → (ch : Chain) (bytes : List ℕ) (offset : ℕ)
-      → rawFrom what n offset ch [] (b ∷ bytes)
-      ≡ outOf (taken what n ch (samples (b % 8 ∷ [])) .told) ++ rawFrom what n (nextOffset offset) (taken what n ch (samples (b % 8 ∷ [])) .state) [] bytes
+  raw-sample : (b : ℕ) → isSample b ≡ true → (ch : Chain) (rd : Reader) (bytes : List ℕ) (offset : ℕ)
+      → rawFrom what n offset ch rd [] (b ∷ bytes)
+      ≡ sampled what n offset b ch rd .out ++ rawFrom what n (nextOffset offset) (sampled what n offset b ch rd .chain) (sampled what n offset b ch rd .reader) [] bytes
   unfolding itemOf
-  raw-sample b y ch bytes offset = raw-more what n some offset ch [] b bytes {item = whole (samples (b % 8 ∷ []))} (pick-yes _ _ y)
+  raw-sample b y ch rd bytes offset = raw-more what n some offset ch rd [] b bytes {said = whole (sample b)} (pick-yes _ _ y)
 
   -- a scan's first byte
   module _ (k : ℕ) (near : k < n) where
@@ -88,82 +99,100 @@ module _ (what : Report) (n : ℕ) (some : chipCount n ≡ true) where
     unfolding itemOf
     item-begun more l = pick-no _ _ no-sample ∙ pick-yes _ _ is-scan ∙ pick-yes _ _ (lt-ltb (length more) 8 l)
 
-    item-whole : (more : List ℕ) → 8 ≤ length more → itemOf n ((0x80 + k) ∷ more) ≡ whole (scan k more)
+    item-whole : (more : List ℕ) → 8 ≤ length more → itemOf n ((0x80 + k) ∷ more) ≡ whole (scanned k more)
     unfolding itemOf
     item-whole more l =
-        pick-no _ _ no-sample ∙ pick-yes _ _ is-scan ∙ pick-no _ _ (le-ltb (length more) 8 l) ∙ ap (λ c. whole (scan c more)) of-chip
+        pick-no _ _ no-sample ∙ pick-yes _ _ is-scan ∙ pick-no _ _ (le-ltb (length more) 8 l) ∙ ap (λ c. whole (scanned c more)) of-chip
 
     -- the scan is whole, and then what is left
-    scannedThen : Chain → List ℕ → ℕ → List ℕ → List ℕ
-    scannedThen ch more offset bytes = outOf (taken what n ch (scan k more) .told) ++ rawFrom what n offset (taken what n ch (scan k more) .state) [] bytes
+    scannedThen : Chain → Reader → List ℕ → ℕ → List ℕ → List ℕ
+    scannedThen ch rd more offset bytes = outOf (taken what n ch (scan k more) .told) ++ rawFrom what n offset (taken what n ch (scan k more) .state) rd [] bytes
 
     -- its bytes from one on
-    raw-rest : (ch : Chain) (h more bytes : List ℕ) → length h + length more ≡ 8 → 0 < length more
-        → (offset : ℕ) → rawFrom what n offset ch ((0x80 + k) ∷ h) (more ++ bytes) ≡ scannedThen ch (h ++ more) (pastBytes offset more) bytes
+    raw-rest : (ch : Chain) (rd : Reader) (h more bytes : List ℕ) → length h + length more ≡ 8 → 0 < length more
+        → (offset : ℕ) → rawFrom what n offset ch rd ((0x80 + k) ∷ h) (more ++ bytes) ≡ scannedThen ch rd (h ++ more) (pastBytes offset more) bytes
     unfolding pastBytes scannedThen
-    raw-rest ch h [] bytes e l offset = absurd (omega arith)
-    raw-rest ch h (b ∷ []) bytes e l offset =
-        raw-more what n some offset ch ((0x80 + k) ∷ h) b bytes (item-whole (h ++ b ∷ []) (omega (arith, length-append h (b ∷ []))))
-    raw-rest ch h (b ∷ c ∷ more) bytes e l offset =
+    raw-rest ch rd h [] bytes e l offset = absurd (omega arith)
+    raw-rest ch rd h (b ∷ []) bytes e l offset =
+        raw-more what n some offset ch rd ((0x80 + k) ∷ h) b bytes (item-whole (h ++ b ∷ []) (omega (arith, length-append h (b ∷ []))))
+    raw-rest ch rd h (b ∷ c ∷ more) bytes e l offset =
         let size : length (h ++ b ∷ []) ≡ length h + 1 = length-append h (b ∷ []) in
-        raw-more what n some offset ch ((0x80 + k) ∷ h) b (c ∷ more ++ bytes) (item-begun (h ++ b ∷ []) (omega arith))
-        ∙ raw-rest ch (h ++ b ∷ []) (c ∷ more) bytes (omega arith) (omega arith) (nextOffset offset)
-        ∙ ap (λ xs. scannedThen ch xs (pastBytes (nextOffset offset) (c ∷ more)) bytes) (append-assoc h (b ∷ []) (c ∷ more))
+        raw-more what n some offset ch rd ((0x80 + k) ∷ h) b (c ∷ more ++ bytes) (item-begun (h ++ b ∷ []) (omega arith))
+        ∙ raw-rest ch rd (h ++ b ∷ []) (c ∷ more) bytes (omega arith) (omega arith) (nextOffset offset)
+        ∙ ap (λ xs. scannedThen ch rd xs (pastBytes (nextOffset offset) (c ∷ more)) bytes) (append-assoc h (b ∷ []) (c ∷ more))
 
-    raw-scan : (more : List ℕ) → length more ≡ 8 → (ch : Chain) (bytes : List ℕ) (offset : ℕ)
-        → rawFrom what n offset ch [] ((0x80 + k) ∷ (more ++ bytes)) ≡ scannedThen ch more (pastBytes (nextOffset offset) more) bytes
-    raw-scan more e ch bytes offset =
-        raw-more what n some offset ch [] (0x80 + k) (more ++ bytes) (item-begun [] (omega arith))
-        ∙ raw-rest ch [] more bytes (omega arith) (omega arith) (nextOffset offset)
+    raw-scan : (more : List ℕ) → length more ≡ 8 → (ch : Chain) (rd : Reader) (bytes : List ℕ) (offset : ℕ)
+        → rawFrom what n offset ch rd [] ((0x80 + k) ∷ (more ++ bytes)) ≡ scannedThen ch rd more (pastBytes (nextOffset offset) more) bytes
+    raw-scan more e ch rd bytes offset =
+        raw-more what n some offset ch rd [] (0x80 + k) (more ++ bytes) (item-begun [] (omega arith))
+        ∙ raw-rest ch rd [] more bytes (omega arith) (omega arith) (nextOffset offset)
 
-  pub raw-item : (g : Given) → IsGiven n g → (ch : Chain) (bytes : List ℕ) (offset : ℕ)
-      → rawFrom what n offset ch [] (rawOf g ++ bytes)
-      ≡ outOf (taken what n ch (saysSo g) .told) ++ rawFrom what n (pastBytes offset (rawOf g)) (taken what n ch (saysSo g) .state) [] bytes
+  pub raw-item : (g : Item) → IsGiven n g → (ch : Chain) (rd : Reader) (bytes : List ℕ) (offset : ℕ)
+      → rawFrom what n offset ch rd [] (rawOf g ++ bytes)
+      ≡ (let x = itemTaken what n offset ch rd g in
+      x .out ++ rawFrom what n (pastBytes offset (rawOf g)) (x .chain) (x .reader) [] bytes)
   unfolding pastBytes scannedThen
-  raw-item (sampled b) y ch bytes offset = raw-sample b y ch bytes offset
-  raw-item (scanned k more) y ch bytes offset = raw-scan k (y .0) more (y .1) ch bytes offset
+  raw-item (sample b) y ch rd bytes offset = raw-sample b y ch rd bytes offset
+  raw-item (scanned k more) y ch rd bytes offset = raw-scan k (y .0) more (y .1) ch rd bytes offset
 
-  pub raw-given : (gs : List Given) (ch : Chain) → AllGiven n gs → (offset : ℕ) → rawFrom what n offset ch [] (rawOfAll gs) ≡ givenOut what n ch gs
-  unfolding AllGiven rawOfAll givenOut rawFrom
-  raw-given [] ch all offset = refl
-  raw-given (g ∷ gs) ch all offset =
-      let next = taken what n ch (saysSo g) .state in
-      raw-item g (all .0) ch (rawOfAll gs) offset
-      ∙ ap (λ x. outOf (taken what n ch (saysSo g) .told) ++ x) (raw-given gs next (all .1) (pastBytes offset (rawOf g)))
+  pub raw-given : (gs : List Item) (ch : Chain) (rd : Reader) → AllGiven n gs → (offset : ℕ) → rawFrom what n offset ch rd [] (rawOfAll gs) ≡ itemsOut what n offset ch rd gs
+  unfolding AllGiven rawOfAll itemsOut rawFrom
+  raw-given [] ch rd all offset = refl
+  raw-given (g ∷ gs) ch rd all offset =
+      let x = itemTaken what n offset ch rd g in
+      raw-item g (all .0) ch rd (rawOfAll gs) offset
+      ∙ ap (λ y. x .out ++ y) (raw-given gs (x .chain) (x .reader) (all .1) (pastBytes offset (rawOf g)))
+
+  -- without a recorded DOUT each item writes what its line in a text writes
+  pub plain-given : (gs : List Item) (ch : Chain) (rd : Reader) (offset : ℕ) → AllPlain gs → looking (rd .dout) ≡ false → itemsOut what n offset ch rd gs ≡ givenOut what n ch gs
+  unfolding AllPlain itemsOut givenOut
+  plain-given [] ch rd offset plain blind = refl
+  plain-given (sample b ∷ gs) ch rd offset plain blind =
+      let rest : Sampled → List ℕ = λ x. x .out ++ itemsOut what n (pastBytes offset (b ∷ [])) (x .chain) (x .reader) gs in
+      let low : b < 8 = plain .0 in
+      let same : b ≡ b % 8 = omega arith in
+      let next : ℕ → Chain = λ v. played n (v ∷ []) ch in
+      let ends : ℕ → List ℕ = λ v. risesIn what n (v ∷ []) ch ++ givenOut what n (next v) gs in
+      ap rest (plain-sample what n offset b ch rd low blind)
+      ∙ ap (λ y. risesIn what n (b ∷ []) ch ++ y) (plain-given gs (next b) rd (pastBytes offset (b ∷ [])) (plain .1) blind)
+      ∙ ap ends same
+  plain-given (scanned k bytes ∷ gs) ch rd offset plain blind =
+      let t = taken what n ch (scan k bytes) in
+      ap (λ y. outOf (t .told) ++ y) (plain-given gs (t .state) rd (pastBytes offset (rawOf (scanned k bytes))) plain blind)
 
   -- ---- the capture text
 
   -- a frame is of bytes
-  pub frame-below : (g : Given) → IsGiven n g → AllBelow 256 (frameOf g)
-  frame-below (sampled b) y = (omega arith, (omega arith, tt))
+  pub frame-below : (g : Item) → IsGiven n g → AllBelow 256 (frameOf g)
+  frame-below (sample b) y = (omega arith, (omega arith, tt))
   frame-below (scanned k bytes) y = let l = few in let near = y .0 in (omega arith, (omega arith, y .2))
 
   -- and of the item's form
-  frame-form : (g : Given) → IsGiven n g → formOf n (frameOf g) ≡ saysSo g
+  frame-form : (g : Item) → IsGiven n g → formOf n (frameOf g) ≡ saysSo g
   unfolding formOf checkedFrom
-  frame-form (sampled b) y = ap (λ t. samplesBy t (b % 8 ∷ [])) (pick-yes (done tt) _ (le-leb (b % 8) 7 (omega arith)))
+  frame-form (sample b) y = ap (λ t. samplesBy t (b % 8 ∷ [])) (pick-yes (done tt) _ (le-leb (b % 8) 7 (omega arith)))
   frame-form (scanned k bytes) y = pick-yes (scan k bytes) _ (ap₂ _&&_ (lt-ltb k n (y .0)) (eq-eqb (length bytes) 8 (y .1)))
 
-  pub line-form : (g : Given) → IsGiven n g → formOf n (bytesIn (ended (asHex (frameOf g)))) ≡ saysSo g
+  pub line-form : (g : Item) → IsGiven n g → formOf n (bytesIn (ended (asHex (frameOf g)))) ≡ saysSo g
   line-form g y = ap (formOf n) (line-back (frameOf g) (frame-below g y)) ∙ frame-form g y
 
-  lines-given : (gs : List Given) → AllGiven n gs → linesOf (textOfAll gs) ≡ linesOfAll gs
+  lines-given : (gs : List Item) → AllGiven n gs → linesOf (textOfAll gs) ≡ linesOfAll gs
   unfolding AllGiven textOfAll linesOfAll linesOf
   lines-given [] all = refl
   lines-given (g ∷ gs) all =
       lines-written (frameOf g) (textOfAll gs) (frame-below g (all .0)) ∙ ap (λ ls. ended (asHex (frameOf g)) ∷ ls) (lines-given gs (all .1))
 
-  lines-count : (gs : List Given) → length (linesOfAll gs) ≡ length gs
+  lines-count : (gs : List Item) → length (linesOfAll gs) ≡ length gs
   unfolding linesOfAll
   lines-count [] = refl
   lines-count (g ∷ gs) = ap suc (lines-count gs)
 
   -- what an item's form says is done
-  pub item-then : (g : Given) (ch : Chain) (line : ℕ) (rest : List ℕ) → andThen (taken what n ch (saysSo g) .told) line rest ≡ outOf (taken what n ch (saysSo g) .told) ++ rest
-  item-then (sampled b) ch line rest = refl
+  pub item-then : (g : Item) (ch : Chain) (line : ℕ) (rest : List ℕ) → andThen (taken what n ch (saysSo g) .told) line rest ≡ outOf (taken what n ch (saysSo g) .told) ++ rest
+  item-then (sample b) ch line rest = refl
   item-then (scanned k bytes) ch line rest = refl
 
-  pub text-given : (gs : List Given) (ch : Chain) (line : ℕ) → AllGiven n gs → linesOut what n line ch (linesOfAll gs) ≡ givenOut what n ch gs
+  pub text-given : (gs : List Item) (ch : Chain) (line : ℕ) → AllGiven n gs → linesOut what n line ch (linesOfAll gs) ≡ givenOut what n ch gs
   unfolding AllGiven linesOfAll givenOut linesOut
   text-given [] ch line all = refl
   text-given (g ∷ gs) ch line all =
@@ -178,7 +207,7 @@ module _ (what : Report) (n : ℕ) (some : chipCount n ≡ true) where
   unfolding firstOf
   first-given = pick-yes (done n) _ some
 
-  pub whole-text : (gs : List Given) → AllGiven n gs → length gs < mostLines → longOut what (linesOf (captureText n gs)) ≡ givenOut what n startChain gs
+  pub whole-text : (gs : List Item) → AllGiven n gs → length gs < mostLines → longOut what (linesOf (captureText n gs)) ≡ givenOut what n startChain gs
   whole-text gs all l =
       let head : AllBelow 256 (0x00 ∷ 0x01 ∷ n ∷ []) = let h = few in (omega arith, (omega arith, (omega arith, tt))) in
       let first = ended (asHex (0x00 ∷ 0x01 ∷ n ∷ [])) in
@@ -188,7 +217,10 @@ module _ (what : Report) (n : ℕ) (some : chipCount n ≡ true) where
       ∙ ap (λ t. afterFirst what t (linesOfAll gs)) (ap firstOf (line-back (0x00 ∷ 0x01 ∷ n ∷ []) head) ∙ first-given)
       ∙ text-given gs startChain 2 all
 
-  pub raw-as-text : (gs : List Given) → AllGiven n gs → length gs < mostLines → watchOut what (rawStream n gs) ≡ watchOut what (captureText n gs)
+  pub raw-as-text : (gs : List Item) → AllGiven n gs → AllPlain gs → length gs < mostLines → watchOut what (rawStream n gs) ≡ watchOut what (captureText n gs)
   unfolding lineFor asHex
-  raw-as-text gs all l =
-      pick-yes (rawFrom what n 3 startChain [] (rawOfAll gs)) _ some ∙ raw-given gs startChain all 3 ∙ sym (whole-text gs all l)
+  raw-as-text gs all plain l =
+      pick-yes (rawFrom what n 3 startChain startReader [] (rawOfAll gs)) _ some
+      ∙ raw-given gs startChain startReader all 3
+      ∙ plain-given gs startChain startReader 3 plain refl
+      ∙ sym (whole-text gs all l)

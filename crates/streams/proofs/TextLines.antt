@@ -86,7 +86,7 @@ module _ (what : Report) (s : State) (f : Frame) (reads : f ≡ frameFor (lineHe
         (subst (λ o. Steps (stopped s (refusalLine 10 (s .place))) at o r out″) (line-refused-out e) made)
 
     pub line-taken : t .taken ≡ true → {held : Held} → held ≡ noneHeld
-        → Steps (lineEnded what s) at out (record { state = record { n = s .n; chain = t .chain; place = s .place + 1; held = held }; over = false; at = t .at }) out′
+        → Steps (lineEnded what s) at out (record { state = record { n = s .n; chain = t .chain; place = s .place + 1; held = held; reader = s .reader }; over = false; at = t .at }) out′
     line-taken e h =
         step-as (ended-so ∙ ap (laterTaken s (line .state)) (told-done (line .told) (sym (took .taken) ∙ e)))
-        (record { state = λ i. record { n = s .n; chain = took .chain i; place = s .place + 1; held = h i }; over = refl; puts = took .puts })
+        (record { state = λ i. record { n = s .n; chain = took .chain i; place = s .place + 1; held = h i; reader = s .reader }; over = refl; puts = took .puts })

@@ -27,7 +27,7 @@ use Rattle.streams.specs.Steps.{Stepped, going, stopped, holding, lineEn
 
 -- a state that holds something else
 abbrev pub withHeld : Held → State → State
-withHeld h s = record { n = s .n; chain = s .chain; place = s .place; held = h }
+withHeld h s = record { n = s .n; chain = s .chain; place = s .place; held = h; reader = s .reader }
 
 module _ (what : Report) where
   -- one byte, by what it is

@@ -22,6 +22,7 @@ use Rattle.lines.specs.Lines.{newline, Line, ended as endedLine, cutOff, before
 use Rattle.capture.specs.declared.Report.{Report}
 use Rattle.capture.specs.Reports.{refusalLine}
 use Rattle.capture.specs.Replay.{allOut, allEnd, outputOf}
+use Rattle.reads.specs.Reads.{startReader}
 use Rattle.streams.specs.declared.Kind.the-variants.{Text, Raw}
 use Rattle.streams.specs.Cut.{joined, fedAll}
 use Rattle.streams.specs.Held.{noneHeld}
@@ -49,21 +50,21 @@ module _ (what : Report) where
   none-whole = sym (append-nil (refusalLine 10 1))
 
   -- a text
-  text-whole : (b : ℕ) (bytes : List ℕ) → toEnd (after Text (steps (textByte what) (begins 0 startChain 1) (b ∷ bytes))) ≡ textOut what (b ∷ bytes)
+  text-whole : (b : ℕ) (bytes : List ℕ) → toEnd (after Text (steps (textByte what) (begins 0 startChain startReader 1) (b ∷ bytes))) ≡ textOut what (b ∷ bytes)
   unfolding ended
-  text-whole b bytes = text-first what 0 startChain refl 0xFFFFFFFE refl (b ∷ bytes) [] noneHeld holds-none no-end (omega arith)
+  text-whole b bytes = text-first what 0 startChain startReader refl 0xFFFFFFFE refl (b ∷ bytes) [] noneHeld holds-none no-end (omega arith)
 
   -- a raw stream
-  raw-whole : (b : ℕ) (bytes : List ℕ) → b ≡ 0 → toEnd (after Raw (steps (rawByte what) (begins 0 startChain 0) (b ∷ bytes))) ≡ rawOut what bytes
+  raw-whole : (b : ℕ) (bytes : List ℕ) → b ≡ 0 → toEnd (after Raw (steps (rawByte what) (begins 0 startChain startReader 0) (b ∷ bytes))) ≡ rawOut what bytes
   unfolding ended
-  raw-whole b bytes e = raw-head what 0 startChain refl noneHeld holds-none b bytes e
+  raw-whole b bytes e = raw-head what 0 startChain startReader refl noneHeld holds-none b bytes e
 
   pub watch-whole : (input : List ℕ) → fed what startStream input .out ++ ended (fed what startStream input .stream) ≡ watchOut what input
   unfolding fed
   watch-whole [] = none-whole
   watch-whole (b ∷ bytes) =
-      let raw = after Raw (steps (rawByte what) (begins 0 startChain 0) (b ∷ bytes)) in
-      let text = after Text (steps (textByte what) (begins 0 startChain 1) (b ∷ bytes)) in
+      let raw = after Raw (steps (rawByte what) (begins 0 startChain startReader 0) (b ∷ bytes)) in
+      let text = after Text (steps (textByte what) (begins 0 startChain startReader 1) (b ∷ bytes)) in
       by-equality b 0
       (λ e.
       ap toEnd (pick-yes raw text (eq-eqb b 0 e)) ∙ raw-whole b bytes e ∙ sym (pick-yes (rawOut what bytes) (textOut what (b ∷ bytes)) (eq-eqb b 0 e)))

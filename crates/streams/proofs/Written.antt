@@ -8,6 +8,7 @@ use mathlib.Core.List.{List, _++_, append-assoc, append-nil}
 use Prim.Native.Nat.{ℕ}
 use Rattle.base.specs.Pick.{pick}
 use Rattle.chain.specs.declared.Chain.{Chain}
+use Rattle.reads.specs.declared.Reader.{Reader}
 use Rattle.streams.specs.declared.Kind.{Kind}
 use Rattle.streams.specs.declared.Kind.the-variants.{Over}
 use Rattle.streams.specs.declared.State.{State}
@@ -15,8 +16,8 @@ use Rattle.streams.specs.declared.held.Held.{Held}
 use Rattle.streams.specs.Steps.{Stepped, going, stopped, then, endBy}
 
 -- a state, by what stands in it
-abbrev pub stands : ℕ → Chain → ℕ → Held → State
-stands n ch place held = record { n = n; chain = ch; place = place; held = held }
+abbrev pub stands : ℕ → Chain → Reader → ℕ → Held → State
+stands n ch r place held = record { n = n; chain = ch; place = place; held = held; reader = r }
 
 -- the steps' output, and then the end's
 abbrev pub written : Kind → Stepped → List ℕ

@@ -7,10 +7,11 @@ use mathlib.Core.List.{List, [], _∷_}
 use lib.Dec.{eqb, ltb}
 use lib.ListN.{length, take}
 use Rattle.base.specs.Pick.{pick}
-use Rattle.chain.specs.Chain.{chipCount, played}
+use Rattle.chain.specs.Chain.{chipCount}
 use Rattle.lines.specs.Answers.{Puts}
 use Rattle.capture.specs.declared.Report.{Report}
-use Rattle.capture.specs.Replay.{risesIn}
+use Rattle.reads.specs.Parts.{runLength}
+use Rattle.reads.specs.Reads.{isSample, sampledAll}
 use Rattle.streams.specs.declared.Kind.{Kind}
 use Rattle.streams.specs.declared.Kind.the-variants.{Over}
 use Rattle.streams.specs.declared.State.{State}
@@ -18,13 +19,12 @@ use Rattle.streams.specs.declared.Step.{Step}
 use Rattle.streams.specs.declared.Stream.{Stream}
 use Rattle.streams.specs.declared.Output.{Output}
 use Rattle.streams.specs.declared.samples.Ran.{Ran}
-use Rattle.streams.specs.Raw.{isSample}
 use Rattle.streams.specs.Steps.{Stepped, going, begins, After}
 
--- room for what any block writes, 8 * 21 * (4096 + 64): for each byte what one LOAD rise writes at most, and for 64 bytes more, since a line
--- that was held from before, or a refusal, writes too
+-- room for what any block writes, 187 * (4096 + 64): for each byte what a sample writes at most, and for 64 bytes more, since a line that was
+-- held from before, or a refusal, writes too
 abbrev pub mostWritten : ℕ
-mostWritten = 698880
+mostWritten = 777920
 
 -- a step was made, and what it wrote was put at a place
 pub record Steps (x : Stepped) (at : ℕ) (out : List ℕ) (r : Step) (out′ : List ℕ) : Type 0 where
@@ -32,24 +32,15 @@ pub record Steps (x : Stepped) (at : ℕ) (out : List ℕ) (r : Step) (out′ : 
   pub over : r .over ≡ x .over
   pub puts : Puts (x .out) at out (r .at) out′
 
--- samples that were played at once
+-- samples that were played one after another
 abbrev pub ran : Report → State → List ℕ → Stepped
-ran what s levels =
-    going (begins (s .n) (played (s .n) levels (s .chain)) ((s .place + length levels) % 2 ^ 64)) (risesIn what (s .n) levels (s .chain))
+ran what s bytes =
+    let x = sampledAll what (s .n) (s .place) bytes (s .chain) (s .reader) in
+    going (begins (s .n) (x .chain) (x .reader) ((s .place + length bytes) % 2 ^ 64)) (x .out)
 
 -- a byte is the first of a run of samples: the first three bytes were read, and no scan's is held
 abbrev pub startsRun : State → ℕ → Bool
 startsRun s b = chipCount (s .n) && eqb (s .held .count) 0 && isSample b
-
--- how many samples stand before the next byte that is none, or the block's end
-unfoldable pub runLength : List ℕ → ℕ
-runLength [] = 0
-runLength (b ∷ bytes) = pick (isSample b) (suc (runLength bytes)) 0
-
--- the three levels of samples
-unfoldable pub levelsOf : List ℕ → List ℕ
-levelsOf [] = []
-levelsOf (b ∷ bytes) = b % 8 ∷ levelsOf bytes
 
 -- how many samples without DOUT, 00H to 07H, stand before the next byte that is none, or the block's end
 unfoldable pub plainLength : List ℕ → ℕ
@@ -60,7 +51,7 @@ plainLength (b ∷ bytes) = pick (ltb b 0x08) (suc (plainLength bytes)) 0
 pub record Runs (what : Report) (s : State) (bytes : List ℕ) (at : ℕ) (out : List ℕ) (r : Ran) (out′ : List ℕ) : Type 0 where
   pub some : 1 ≤ r .count
   pub within : r .count ≤ runLength bytes
-  pub step : Steps (ran what s (levelsOf (take (r .count) bytes))) at out (r .step) out′
+  pub step : Steps (ran what s (take (r .count) bytes)) at out (r .step) out′
 
 -- the stream of a kind after a step
 abbrev pub streamAfter : Kind → Step → Stream

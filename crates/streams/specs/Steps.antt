@@ -15,10 +15,11 @@ use Rattle.chain.specs.Chain.{chipCount}
 use Rattle.chain.specs.Entries.{startChain}
 use Rattle.lines.specs.Lines.{newline}
 use Rattle.capture.specs.declared.Report.{Report}
-use Rattle.capture.specs.Frames.{Form, samples, scan, formOf, firstOf}
-use Rattle.capture.specs.Parts.{outOf}
+use Rattle.capture.specs.Frames.{formOf, firstOf}
 use Rattle.capture.specs.Reports.{refusalLine}
 use Rattle.capture.specs.Replay.{taken}
+use Rattle.reads.specs.declared.Reader.{Reader}
+use Rattle.reads.specs.Reads.{isSample, startReader, nextOffset}
 use Rattle.streams.specs.declared.Fed.{Fed}
 use Rattle.streams.specs.declared.Kind.{Kind}
 use Rattle.streams.specs.declared.Kind.the-variants.{Unknown, Text, Raw, Over}
@@ -26,7 +27,7 @@ use Rattle.streams.specs.declared.State.{State}
 use Rattle.streams.specs.declared.Stream.{Stream}
 use Rattle.streams.specs.declared.held.Held.{Held}
 use Rattle.streams.specs.Held.{noneHeld, grownOne, lineHeld}
-use Rattle.streams.specs.Raw.{isSample, isScan, nextOffset, rawRefusal}
+use Rattle.streams.specs.Raw.{Item, sample, scanned, isScan, itemTaken, rawRefusal}
 
 -- ---- one byte
 
@@ -45,23 +46,23 @@ abbrev pub stopped : State → List ℕ → Stepped
 stopped s out = record { state = s; over = true; out = out }
 
 -- a state at whose place a line or an item begins
-abbrev pub begins : ℕ → Chain → ℕ → State
-begins n ch place = record { n = n; chain = ch; place = place; held = noneHeld }
+abbrev pub begins : ℕ → Chain → Reader → ℕ → State
+begins n ch r place = record { n = n; chain = ch; place = place; held = noneHeld; reader = r }
 
 -- a state that holds one byte more
 abbrev pub holding : ℕ → ℕ → State → State
-holding place b s = record { n = s .n; chain = s .chain; place = place; held = grownOne (s .held) b }
+holding place b s = record { n = s .n; chain = s .chain; place = place; held = grownOne (s .held) b; reader = s .reader }
 
 -- ---- text: the place is the line's number
 
 -- the first line gave N, or is refused with 10
 abbrev pub firstTaken : State → Told ℕ → Stepped
-firstTaken s (done n) = going (begins n startChain (s .place + 1)) []
+firstTaken s (done n) = going (begins n startChain startReader (s .place + 1)) []
 firstTaken s (refused number place) = stopped s (refusalLine 10 (s .place))
 
 -- a later line left a chain and wrote this, or is refused with 10
 abbrev pub laterTaken : State → Chain → Told (List ℕ) → Stepped
-laterTaken s ch (done out) = going (begins (s .n) ch (s .place + 1)) out
+laterTaken s ch (done out) = going (begins (s .n) ch (s .reader) (s .place + 1)) out
 laterTaken s ch (refused number place) = stopped s (refusalLine 10 (s .place))
 
 -- the line that is held was ended; the first is the one before N is known
@@ -86,28 +87,28 @@ abbrev pub rawHeld : State → ℕ → Stepped
 rawHeld s b = going (holding (nextOffset (s .place)) b s) []
 
 -- an item that is whole
-abbrev pub rawTaken : Report → State → Form → Stepped
-rawTaken what s form =
-    let t = taken what (s .n) (s .chain) form in
-    going (begins (s .n) (t .state) (nextOffset (s .place))) (outOf (t .told))
+abbrev pub rawTaken : Report → State → Item → Stepped
+rawTaken what s item =
+    let x = itemTaken what (s .n) (s .place) (s .chain) (s .reader) item in
+    going (begins (s .n) (x .chain) (x .reader) (nextOffset (s .place))) (x .out)
 
 -- one of the first three bytes, 00, 01, N: each of the first two is its own offset, which is how many are held
 abbrev pub headByte : State → ℕ → Stepped
 headByte s b =
     pick (ltb (s .held .count) 2) (pick (eqb b (s .held .count)) (rawHeld s b) (rawRefused s))
-    (pick (chipCount b) (going (begins b startChain (nextOffset (s .place))) []) (rawRefused s))
+    (pick (chipCount b) (going (begins b startChain startReader (nextOffset (s .place))) []) (rawRefused s))
 
 -- the scan whose first eight bytes are held, with its last one; of any record that may be handed over, so the chip is below 128
-abbrev pub scanHeld : Held → ℕ → Form
+abbrev pub scanHeld : Held → ℕ → Item
 scanHeld h b =
     let at = getD (h .bytes) in
-    scan (at 0 0 % 128) (at 1 0 ∷ at 2 0 ∷ at 3 0 ∷ at 4 0 ∷ at 5 0 ∷ at 6 0 ∷ at 7 0 ∷ b ∷ [])
+    scanned (at 0 0 % 128) (at 1 0 ∷ at 2 0 ∷ at 3 0 ∷ at 4 0 ∷ at 5 0 ∷ at 6 0 ∷ at 7 0 ∷ b ∷ [])
 
 -- one byte of an item
 abbrev pub itemByte : Report → State → ℕ → Stepped
 itemByte what s b =
     pick (eqb (s .held .count) 0)
-    (pick (isSample b) (rawTaken what s (samples (b % 8 ∷ []))) (pick (isScan (s .n) b) (rawHeld s b) (rawRefused s)))
+    (pick (isSample b) (rawTaken what s (sample b)) (pick (isScan (s .n) b) (rawHeld s b) (rawRefused s)))
     (pick (ltb (s .held .count) 8) (rawHeld s b) (rawTaken what s (scanHeld (s .held) b)))
 
 -- one byte of a raw stream; the first three come before N is known
@@ -137,7 +138,7 @@ after kind x = record { stream = record { kind = pick (x .over) Over kind; state
 
 -- a state at a place
 abbrev pub placedAt : ℕ → State → State
-placedAt place s = record { n = s .n; chain = s .chain; place = place; held = s .held }
+placedAt place s = record { n = s .n; chain = s .chain; place = place; held = s .held; reader = s .reader }
 
 -- a block, by the stream's kind, which its first byte tells
 abbrev pub fedBy : Report → Kind → State → List ℕ → After
@@ -156,7 +157,7 @@ fed what s bytes = fedBy what (s .kind) (s .state) bytes
 
 -- a stream before its first byte
 abbrev pub startStream : Stream
-startStream = record { kind = Unknown; state = begins 0 startChain 0 }
+startStream = record { kind = Unknown; state = begins 0 startChain startReader 0 }
 
 -- what the end writes: a refusal, where the first line is missing, or the end stands inside a line, the first three bytes or a scan
 abbrev pub endBy : Kind → State → List ℕ

@@ -10,6 +10,7 @@ use base::Refusal;
 use capture::Report;
 use chain::Chain;
 use held::Held;
+use reads::Reader;
 ghost use mathlib.Core.Path.{_≡_};
 ghost use Prim.Native.Nat.{_≤_, min};
 ghost use lib.ListN.{length};
@@ -29,14 +30,16 @@ pub enum Kind {
 }
 
 // How far a stream has come: N, or 0 before it is known; the chain; the line's number in a text, or the next byte's offset in a raw
-// stream; and what is held of a line, or of the first three bytes or a scan.
+// stream; what is held of a line, or of the first three bytes or a scan; and the reader of the last chip's recorded DOUT.
 pub struct State {
     pub n: usize,
     pub chain: Chain,
     pub place: u64,
     pub held: Held,
+    pub reader: Reader,
 }
 
+// A stream, at any place.
 pub struct Stream {
     pub kind: Kind,
     pub state: State,
@@ -66,8 +69,8 @@ pub(crate) struct Output {
 // The most bytes that a call takes.
 pub const BLOCK: usize = 4096;
 
-// How long any output of a block can be: for each of its bytes the most chips' longest lines, as a LOAD rise writes them, and for 64 more.
-pub const ROOM: usize = chain::MOST * 21 * (BLOCK + 64);
+// How long any output of a block can be: for each of its bytes what a sample can write, and for 64 more.
+pub const ROOM: usize = reads::SAMPLE_ROOM * (BLOCK + 64);
 
 // A stream before its first byte.
 pub fn start() -> Stream
@@ -82,6 +85,7 @@ pub fn start() -> Stream
             chain,
             place: 0,
             held: held::none(),
+            reader: reads::start(),
         },
     }
 }
@@ -93,11 +97,13 @@ fn placed_at(place: u64, state: State) -> State
     let n = state.n;
     let chain = state.chain;
     let held = state.held;
+    let reader = state.reader;
     State {
         n,
         chain,
         place,
         held,
+        reader,
     }
 }
 

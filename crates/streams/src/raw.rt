@@ -10,6 +10,7 @@ ghost use Prim.Native.Nat.{_+_, _≤_};
 ghost use lib.ListN.{length};
 ghost use Rattle.chain.specs.Chain.{chipCount};
 ghost use Rattle.lines.specs.Answers.{fitting, Puts};
+ghost use Rattle.reads.specs.Reads.{nextOffset};
 ghost use Rattle.streams.specs.Parts as P;
 ghost use Rattle.streams.specs.Raw as R;
 ghost use Rattle.streams.specs.Steps as S;
@@ -18,17 +19,18 @@ ghost use Rattle.streams.specs.Steps as S;
 pub(crate) fn refusal(offset: u64, out: &mut [u8], at: usize) -> usize
     ensures { λ r. ⌜ Puts (fitting (R.rawRefusal offset) at (now (out .entry))) at (now (out .entry)) r (now (out .exit)) ⌝ }
 {
+    let eight = lines::eight_bytes(offset);
     let bytes = [
         0x1F,
         0x0A,
-        (offset / 72057594037927936 % 256) as u8,
-        (offset / 281474976710656 % 256) as u8,
-        (offset / 1099511627776 % 256) as u8,
-        (offset / 4294967296 % 256) as u8,
-        (offset / 16777216 % 256) as u8,
-        (offset / 65536 % 256) as u8,
-        (offset / 256 % 256) as u8,
-        (offset % 256) as u8,
+        eight[0],
+        eight[1],
+        eight[2],
+        eight[3],
+        eight[4],
+        eight[5],
+        eight[6],
+        eight[7],
     ];
     lines::put_line(&bytes, out, at)
 }
@@ -48,16 +50,18 @@ fn refused(state: State, out: &mut [u8], at: usize) -> Step
 
 // The state that holds one byte more.
 fn kept(state: State, b: u8) -> State
-    ensures { λ r. ⌜ r ≡ S.holding (R.nextOffset (state .place)) b state ⌝ }
+    ensures { λ r. ⌜ r ≡ S.holding (nextOffset (state .place)) b state ⌝ }
 {
     let held = state.held;
     let chain = state.chain;
+    let reader = state.reader;
     let bytes = [b];
     State {
         n: state.n,
         chain,
         place: std::num::wrapping_add_u64(state.place, 1),
         held: held::grown(held, &bytes),
+        reader,
     }
 }
 
@@ -89,6 +93,7 @@ fn head_byte(state: State, b: u8, out: &mut [u8], at: usize) -> Step
             chain,
             place: std::num::wrapping_add_u64(state.place, 1),
             held: held::none(),
+            reader: reads::start(),
         },
         over: false,
         at,
@@ -114,6 +119,7 @@ fn scan(what: Report, state: State, b: u8, out: &mut [u8], at: usize) -> Step
         bytes[7],
         b,
     ];
+    let reader = state.reader;
     let took = capture::takes::scan(what, n, chain, bytes[0] % 128, eight, out, at);
     let after = took.chain;
     Step {
@@ -122,6 +128,7 @@ fn scan(what: Report, state: State, b: u8, out: &mut [u8], at: usize) -> Step
             chain: after,
             place: std::num::wrapping_add_u64(state.place, 1),
             held: held::none(),
+            reader,
         },
         over: false,
         at: took.at,

@@ -49,6 +49,7 @@ fn first(state: State, frame: Frame, out: &mut [u8], at: usize) -> Step
             chain,
             place: number + 1,
             held: held::none(),
+            reader: reads::start(),
         },
         over: false,
         at,
@@ -65,6 +66,7 @@ fn ended(what: Report, state: State, out: &mut [u8], at: usize) -> Step
     let chain = state.chain;
     let number = state.place;
     let held = state.held;
+    let reader = state.reader;
     let frame = held::frame(held);
     if !chain::checks::is_count(n) {
         return first(state, frame, out, at);
@@ -80,6 +82,7 @@ fn ended(what: Report, state: State, out: &mut [u8], at: usize) -> Step
             chain: after,
             place: number + 1,
             held: held::none(),
+            reader,
         },
         over: false,
         at: took.at,

@@ -6,11 +6,10 @@
 --     codeBytes, code-none, code-line-is, code-room    a code's
 --     end-room                                         a refusal's
 --     chip-at, few-chips, many-chips                   the chips below the largest N
---     puts-room, puts-both                             a piece put after another
 --     chips-fit, codes-fit, end-fits, prints-so        the three parts of the whole, put one after another
 --     printed-room, prints-counts                      the whole always fits, and the answer counts bytes at the array's front
 -- Assumes nothing.
-use mathlib.Core.Path.{_≡_, ap, ap₂, sym, subst, _∙_}
+use mathlib.Core.Path.{_≡_, ap, sym, subst, _∙_}
 use mathlib.Core.List.{List, [], _∷_, _++_}
 use Prim.Native.Nat.{ℕ, suc, _+_, _*_, _≤_, _<_}
 use native.Mathlib.Nat.{min-le-right}
@@ -20,20 +19,20 @@ use borrow.Author.Tests.{eq-eqb, ne-eqb}
 use lib.Dec.{eqb}
 use lib.ListN.{length, getD, take, drop, length-append, length-take, drop-of-length-le}
 use lib.Seq.{drop-cons, getD-take}
-use Rattle.base.specs.Lent.{placed, Counts}
+use Rattle.base.specs.Lent.{Counts}
 use Rattle.base.specs.Refusals.{Told, done, refused, verdictTells}
 use Rattle.base.specs.declared.Verdict.{Verdict}
-use Rattle.base.proofs.Lent.{Fills, fills-more, fills-room, fills-over, placed-length, placed-again, laid-counts}
+use Rattle.base.proofs.Lent.{Fills, fills-more, fills-room, fills-over, laid-counts}
 use Rattle.base.proofs.Picks.{pick-yes, pick-no, pick-cases}
 use Rattle.lines.specs.Answers.{Puts}
-use Rattle.lines.specs.Lines.{lineFor}
-use Rattle.lines.proofs.Puts.{line-for-length}
+use Rattle.lines.specs.Lines.{lineFor, eightBytes}
+use Rattle.lines.proofs.Puts.{eightOf, line-for-length, puts-room, puts-both}
 use Rattle.chain.specs.Chain.{most}
 use Rattle.capture.specs.Law.{endLine}
 use Rattle.capture.proofs.Reported.{refusal-length}
 use Rattle.tallies.specs.declared.Counts.{Counts as Four}
 use Rattle.tallies.specs.declared.Tally.{Tally}
-use Rattle.tallies.specs.Printed.{eightBytes, chipLine, codeLine, linesAt, tallyLines, printedOf, Prints}
+use Rattle.tallies.specs.Printed.{chipLine, codeLine, linesAt, tallyLines, printedOf, Prints}
 
 -- ---- a loop that puts lines
 
@@ -78,10 +77,6 @@ lines-room f width each k (x ∷ xs) =
 
 -- ---- one line
 
--- what the code's arrays hold of a count's eight bytes
-abbrev eightOf : List ℕ → List ℕ
-eightOf a = getD a 0 0 ∷ getD a 1 0 ∷ getD a 2 0 ∷ getD a 3 0 ∷ getD a 4 0 ∷ getD a 5 0 ∷ getD a 6 0 ∷ getD a 7 0 ∷ []
-
 abbrev pub chipBytes : ℕ → List ℕ → List ℕ → List ℕ → List ℕ → List ℕ
 chipBytes k a b d e = 0x13 ∷ k ∷ (eightOf a ++ eightOf b ++ eightOf d ++ eightOf e)
 
@@ -122,21 +117,6 @@ module _ (n : ℕ) (chips : List Four) where
 
   pub many-chips : (k : ℕ) → length chips ≤ k → length (take n chips) ≤ k
   many-chips k h = omega (arith, length-take n chips, min-le-right n (length chips))
-
--- ---- pieces one after another
-
-module _ (p q : List ℕ) {at : ℕ} {out : List ℕ} {r : ℕ} {out′ : List ℕ} (room : at + length (p ++ q) ≤ length out) (put : Puts p at out r out′) where
-  pub puts-room : r + length q ≤ length out′
-  puts-room =
-      let split = length-append p q in
-      omega (arith, put .answer, ap length (put .bytes), placed-length out at p (omega arith))
-
-  pub puts-both : {s : ℕ} {out″ : List ℕ} → Puts q r out′ s out″ → Puts (p ++ q) at out s out″
-  puts-both more =
-      record {
-        answer = omega (arith, length-append p q, put .answer, more .answer);
-        bytes = more .bytes ∙ ap₂ (λ n xs. placed n q xs) (put .answer) (put .bytes) ∙ placed-again out at p q (omega (arith, length-append p q));
-      }
 
 -- ---- the whole
 

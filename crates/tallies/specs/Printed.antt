@@ -2,7 +2,7 @@
 -- 0; then the refusal of the last capture, if it was refused.
 -- Assumes nothing.
 use mathlib.Core.Path.{_≡_}
-use Prim.Native.Nat.{ℕ, suc, _/_, _^_}
+use Prim.Native.Nat.{ℕ, suc}
 use mathlib.Core.List.{List, [], _∷_, _++_}
 use lib.Dec.{eqb}
 use lib.ListN.{length, take}
@@ -10,14 +10,10 @@ use Rattle.base.specs.Lent.{laid}
 use Rattle.base.specs.Pick.{pick}
 use Rattle.base.specs.Refusals.{verdictTells}
 use Rattle.base.specs.declared.Verdict.{Verdict}
-use Rattle.lines.specs.Lines.{lineFor, fourBytes}
+use Rattle.lines.specs.Lines.{lineFor, eightBytes}
 use Rattle.capture.specs.Law.{endLine}
 use Rattle.tallies.specs.declared.Counts.{Counts}
 use Rattle.tallies.specs.declared.Tally.{Tally}
-
--- a count in eight bytes, high first
-abbrev pub eightBytes : ℕ → List ℕ
-eightBytes n = fourBytes (n / 2 ^ 32) ++ fourBytes n
 
 -- 13, chip, and its four counts
 abbrev pub chipLine : ℕ → Counts → List ℕ

@@ -2,7 +2,6 @@
 use crate::Counts;
 use crate::Tally;
 use base::Verdict;
-ghost use mathlib.Core.Path.{_≡_};
 ghost use Prim.Native.Nat.{_+_, _≤_};
 ghost use lib.ListN.{length, take};
 ghost use Rattle.base.specs.Refusals.{verdictTells};
@@ -10,32 +9,15 @@ ghost use Rattle.capture.specs.Law.{endLine};
 ghost use Rattle.lines.specs.Answers.{Puts};
 ghost use Rattle.tallies.specs.Printed as P;
 
-// A count in eight bytes, high first.
-fn eight(n: u64) -> [u8; 8]
-    ensures { λ r. ⌜ r ≡ P.eightBytes n ⌝ }
-{
-    let high = n / 4294967296;
-    [
-        (high / 16777216 % 256) as u8,
-        (high / 65536 % 256) as u8,
-        (high / 256 % 256) as u8,
-        (high % 256) as u8,
-        (n / 16777216 % 256) as u8,
-        (n / 65536 % 256) as u8,
-        (n / 256 % 256) as u8,
-        (n % 256) as u8,
-    ]
-}
-
 // 13, chip, and its four counts.
 fn chip_line(k: u8, c: Counts, out: &mut [u8], at: usize) -> usize
     requires { ⌜ at + 69 ≤ length (now out) ⌝ }
     ensures { λ r. ⌜ Puts (P.chipLine k c) at (now (out .entry)) r (now (out .exit)) ⌝ }
 {
-    let a = eight(c.recorded);
-    let b = eight(c.read);
-    let d = eight(c.overwritten);
-    let e = eight(c.cleared);
+    let a = lines::eight_bytes(c.recorded);
+    let b = lines::eight_bytes(c.read);
+    let d = lines::eight_bytes(c.overwritten);
+    let e = lines::eight_bytes(c.cleared);
     let bytes = [
         0x13,
         k,
@@ -101,7 +83,7 @@ fn code_line(code: u8, count: u64, out: &mut [u8], at: usize) -> usize
     if count == 0 {
         return at;
     }
-    let a = eight(count);
+    let a = lines::eight_bytes(count);
     let bytes = [0x14, code, a[0], a[1], a[2], a[3], a[4], a[5], a[6], a[7]];
     lines::put_line(&bytes, out, at)
 }

@@ -1,17 +1,15 @@
 -- What is written at an obeyed command, seen from the places of the code that writes it.
 --     sixBytes, screen-put                  the segments lit
---     first-room, next-room, both-put       a piece put and another after it, where there is room for both
 --     by-none, by-commands, by-screen       what an obeyed command writes, case by case
 --     by-nothing, by-bytes                  what a transfer writes
 -- Assumes nothing.
 use mathlib.Core.Path.{_≡_, ap, sym, _∙_}
 use mathlib.Core.Bool.{Bool}
-use mathlib.Core.List.{List, [], _∷_, _++_}
-use Prim.Native.Nat.{ℕ, _+_, _≤_}
+use mathlib.Core.List.{List, [], _∷_}
+use Prim.Native.Nat.{ℕ}
 use native.Mathlib.Omega.{arith}
-use lib.ListN.{length, getD, length-append}
+use lib.ListN.{length, getD}
 use lib.Seq.{take-all}
-use Rattle.base.proofs.Lent.{Fills, fills-start, fills-more}
 use Rattle.capture.proofs.Read.{nextOf, front-so}
 use Rattle.ch450.specs.declared.Command.{Command}
 use Rattle.ch450.specs.declared.Panel.{Panel}
@@ -21,7 +19,6 @@ use Rattle.ch450.specs.declared.play.Transfer.{Transfer}
 use Rattle.ch450.specs.declared.play.Transfer.the-variants as Transfers
 use Rattle.ch450.specs.Commands.{meaningOf, isRead}
 use Rattle.ch450.specs.Panel.{litOf}
-use Rattle.lines.specs.Answers.{Puts}
 use Rattle.lines.specs.Lines.{lineFor}
 use Rattle.wires.specs.declared.Report.{Report}
 use Rattle.wires.specs.declared.Report.the-variants.{Commands, Screen}
@@ -40,23 +37,6 @@ six-so lit six = sym (take-all 6 lit (omega arith)) ∙ front-so lit 6 (omega ar
 
 pub screen-put : (p : Panel) (lit : List ℕ) → lit ≡ litOf p → length lit ≡ 6 → screenLine p ≡ lineFor (0x44 ∷ sixBytes lit)
 screen-put p lit e six = ap (λ xs. lineFor (0x44 ∷ xs)) (sym e ∙ six-so lit six)
-
--- ---- a piece and another after it
-
-module _ (p q : List ℕ) (at : ℕ) (out : List ℕ) (room : at + length (p ++ q) ≤ length out) where
-  pub first-room : at + length p ≤ length out
-  first-room = omega (arith, length-append p q)
-
-  module _ {r : ℕ} {out′ : List ℕ} (put : Puts p at out r out′) where
-    -- what is left after the first
-    left : Fills at (p ++ q) out r q out′
-    left = fills-more p q (fills-start at (p ++ q) out) room (put .answer) (put .bytes)
-
-    pub next-room : r + length q ≤ length out′
-    next-room = omega (arith, left .count, left .size)
-
-    pub both-put : {r′ : ℕ} {out″ : List ℕ} → Puts q r out′ r′ out″ → Puts (p ++ q) at out r′ out″
-    both-put more = record { answer = more .answer ∙ left .count; bytes = more .bytes ∙ left .bytes }
 
 -- ---- an obeyed command
 

@@ -19,13 +19,13 @@ block-requires : tie.Need-block-requires
 block-requires c κs =
     let a = c .before .before .before .before .args in
     let t = c .before .before .taken in
-    let all : length (a .out .now) ≡ 698880 = search needs in
+    let all : length (a .out .now) ≡ 777920 = search needs in
     (taken-few (a .bytes .now) (t .result) (t .ensures) .1, omega arith)
 
 returns : tie.Need-returns
 returns c =
     let a = c .before .before .before .before .before .before .args in
-    let all : length (a .out .now) ≡ 698880 = search needs in
+    let all : length (a .out .now) ≡ 777920 = search needs in
     feeds-so (c .before .before .before .before .taken .ensures) (omega arith) (c .before .block .ensures)
 
 pub feed-spec : {M : Type 1} → statement M

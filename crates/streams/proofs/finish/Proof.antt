@@ -13,19 +13,19 @@ use Rattle.streams.proofs.finish.Tie as tie
 returns : tie.Need-returns
 returns c =
     let a = c .before .before .before .before .before .args in
-    let all : length (a .out .now) ≡ 698880 = search needs in
+    let all : length (a .out .now) ≡ 777920 = search needs in
     finishes-so (a .stream) (end-kind (a .stream) (c .before .before .enum-told .given .1)) (omega (arith, end-room (a .stream))) (put-whole (omega (arith, refusal-length 10 1)) (c .refusal .ensures))
 
 returns-2 : tie.Need-returns-2
 returns-2 c =
     let a = c .before .before .before .before .before .args in
-    let all : length (a .out .now) ≡ 698880 = search needs in
+    let all : length (a .out .now) ≡ 777920 = search needs in
     finishes-so (a .stream) (end-kind (a .stream) (c .before .before .enum-told2 .given .1)) (omega (arith, end-room (a .stream))) (c .text-end .ensures)
 
 returns-3 : tie.Need-returns-3
 returns-3 c =
     let a = c .before .before .before .before .before .args in
-    let all : length (a .out .now) ≡ 698880 = search needs in
+    let all : length (a .out .now) ≡ 777920 = search needs in
     finishes-so (a .stream) (end-kind (a .stream) (c .before .before .enum-told3 .given .1)) (omega (arith, end-room (a .stream))) (c .raw-end .ensures)
 
 returns-4 : tie.Need-returns-4

@@ -28,7 +28,7 @@ run-requires c κs =
     let s = c .before .before .starts-run in
     let starts = sym (s .ensures) ∙ c .before .if1 .taken in
     let more = c .before .before .before .before .loop-test .taken in
-    (run-counted (l .inv) more starts, (l .inv .few, (l .inv .goes .within, (run-some (l .inv) more starts, run-room (l .inv) more starts))))
+    (run-counted (l .inv) more starts, (l .inv .goes .within, (run-some (l .inv) more starts, run-room (l .inv) more starts)))
 
 add-i : tie.Need-add-i Inv-loop μ-loop
 add-i c =

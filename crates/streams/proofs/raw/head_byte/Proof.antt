@@ -28,28 +28,13 @@ returns-3 c =
 
 returns-4 : tie.Need-returns-4
 returns-4 c =
-    let a = c .before .before .before .before .before .before .before .before .before .before .args in
-    let k = c .before .before .before .before .before .is-count in
-    let good = sym (k .ensures) ∙ not-false (k .result) (c .before .before .before .before .if3 .left) in
-    let begun = ap (λ o. o .state) (c .before .before .before .start .ensures ∙ start-done (a .b) (subst T (sym good) tt)) in
-    step-as (head-count (a .state) (a .b) (c .before .before .before .before .before .before .if1 .left) good)
+    let a = c .before .before .before .before .before .before .before .before .before .before .before .args in
+    let k = c .before .before .before .before .before .before .is-count in
+    let good = sym (k .ensures) ∙ not-false (k .result) (c .before .before .before .before .before .if3 .left) in
+    let begun = ap (λ o. o .state) (c .before .before .before .before .start .ensures ∙ start-done (a .b) (subst T (sym good) tt)) in
+    step-as (head-count (a .state) (a .b) (c .before .before .before .before .before .before .before .if1 .left) good)
     (nothing-written (a .at) (a .out .now)
-    (λ i. record { n = a .b; chain = begun i; place = c .before .wrapping-add-u64 .ensures i; held = c .none .ensures i }))
+    (λ i. record { n = a .b; chain = begun i; place = c .before .before .wrapping-add-u64 .ensures i; held = c .before .none .ensures i; reader = c .start2 .ensures i }))
 
 pub head-byte-spec : {M : Type 1} → statement M
-head-byte-spec =
-    tie.close
-    (tie.spec
-    (λ c κs. search needs)
-    (λ c. search needs)
-    returns
-    (λ c κs. search needs)
-    returns-2
-    (λ c κs. search needs)
-    (λ c κs. search needs)
-    (λ c. search needs)
-    returns-3
-    (λ c κs. search needs)
-    (λ c κs. search needs)
-    (λ c κs. search needs)
-    returns-4)
+head-byte-spec = tie.close (tie.spec (λ c κs. search needs) (λ c. search needs) returns (λ c κs. search needs) returns-2 (λ c κs. search needs) (λ c κs. search needs) (λ c. search needs) returns-3 (λ c κs. search needs) (λ c κs. search needs) (λ c κs. search needs) (λ c κs. search needs) returns-4)

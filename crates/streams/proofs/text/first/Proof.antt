@@ -36,25 +36,13 @@ returns c =
 
 returns-2 : tie.Need-returns-2
 returns-2 c =
-    let a = c .before .before .before .before .before .before .before .before .args in
-    let n = c .before .before .before .before .chips-in in
-    let some = bytes-some (heldBy (a .frame)) (λ z. c .before .before .before .if1 .left (n .ensures ∙ z)) in
-    let begun = ap (λ o. o .state) (c .before .before .start .ensures ∙ start-done (n .result) (subst (λ m. T (chipCount m)) (sym (n .ensures)) (some .1))) in
+    let a = c .before .before .before .before .before .before .before .before .before .args in
+    let n = c .before .before .before .before .before .chips-in in
+    let some = bytes-some (heldBy (a .frame)) (λ z. c .before .before .before .before .if1 .left (n .ensures ∙ z)) in
+    let begun = ap (λ o. o .state) (c .before .before .before .start .ensures ∙ start-done (n .result) (subst (λ m. T (chipCount m)) (sym (n .ensures)) (some .1))) in
     step-as (ap (firstTaken (a .state)) (some .0))
     (nothing-written (a .at) (a .out .now)
-    (λ i. record { n = n .ensures i; chain = begun i; place = a .state .place + 1; held = c .none .ensures i }))
+    (λ i. record { n = n .ensures i; chain = begun i; place = a .state .place + 1; held = c .before .none .ensures i; reader = c .start2 .ensures i }))
 
 pub first-spec : {M : Type 1} → statement M
-first-spec =
-    tie.close
-    (tie.spec
-    array-share-prefix-bytes
-    slice-aggregate-chips-in
-    (λ c κs. search needs)
-    (λ c κs. search needs)
-    (λ c. search needs)
-    returns
-    (λ c κs. search needs)
-    (λ c. search needs)
-    (λ c κs. search needs)
-    returns-2)
+first-spec = tie.close (tie.spec array-share-prefix-bytes slice-aggregate-chips-in (λ c κs. search needs) (λ c κs. search needs) (λ c. search needs) returns (λ c κs. search needs) (λ c. search needs) (λ c κs. search needs) (λ c κs. search needs) returns-2)

@@ -13,10 +13,10 @@ use Rattle.tallies.proofs.printed.chip_line.Tie as tie
 returns : tie.Need-returns
 returns c =
     let s = c .before .before .before .before .before .before .before .before .before .before in
-    let a = c .before .before .before .before .before .before .before .before .eight in
-    let b = c .before .before .before .before .before .before .before .eight2 in
-    let d = c .before .before .before .before .before .before .eight3 in
-    let e = c .before .before .before .before .before .eight4 in
+    let a = c .before .before .before .before .before .before .before .before .eight-bytes in
+    let b = c .before .before .before .before .before .before .before .eight-bytes2 in
+    let d = c .before .before .before .before .before .before .eight-bytes3 in
+    let e = c .before .before .before .before .before .eight-bytes4 in
     let room : s .args .at + length (chipLine (s .args .k) (s .args .c)) ≤ length (s .args .out .now) = omega (arith, chip-length (s .args .k) (s .args .c), s .pre) in
     line-put (chipBytes (s .args .k) (a .result) (b .result) (d .result) (e .result))
     (chip-line-is (s .args .k) (s .args .c) (a .ensures) (b .ensures) (d .ensures) (e .ensures)) room (c .before .before .put-line .ensures)

@@ -14,7 +14,7 @@ returns c =
 returns-2 : tie.Need-returns-2
 returns-2 c =
     let s = c .before .before .before .before .before .before .before .before in
-    let a = c .before .before .before .before .before .eight in
+    let a = c .before .before .before .before .before .eight-bytes in
     line-put (codeBytes (s .args .code) (a .result))
     (code-line-is (s .args .code) (s .args .count) (c .before .before .before .before .before .before .if1 .left) (a .ensures)) (s .pre) (c .before .before .put-line .ensures)
 

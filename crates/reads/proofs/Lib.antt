@@ -1,0 +1,15 @@
+pub mod Looking
+pub mod Lengths
+pub mod Sampling
+pub mod Firsts
+pub mod Plain
+pub mod Kept
+pub mod LastChip
+pub mod LookCases
+pub mod ReadBits
+pub mod Tracking
+pub mod Trusted
+pub mod Parted
+pub mod Recordings
+pub mod Unscanned
+pub mod Probe

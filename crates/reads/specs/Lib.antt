@@ -1,0 +1,4 @@
+pub mod Notes
+pub mod Reads
+pub mod Parts
+pub mod Till
