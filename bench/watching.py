@@ -1,6 +1,6 @@
 """Used by bench/watch: runs the programs on the streams that it made, and prints what was measured.
 
-    watching.py FOLDER WATCH PLAIN RUNNER...      FOLDER has recording.raw and piece.raw; RUNNER stands before a program
+    watching.py FOLDER WATCH PLAIN RUNNER...      FOLDER has recording.raw, dout.raw and piece.raw; RUNNER stands before a program
 """
 import array
 import fcntl
@@ -113,6 +113,8 @@ def main():
     for path in os.path.join(folder, "piece.raw"), recording:
         used = tuple(memory(command, path) for command in commands)
         print("most resident memory, %d bytes watched: proved %d KiB, plain %d KiB" % ((os.path.getsize(path),) + used))
+    dout = os.path.join(folder, "dout.raw")
+    compare("%d samples with DOUT, raw" % (os.path.getsize(dout) - HEAD), commands, dout)
     write_text(recording, text)
     compare("the first %d samples, as text" % TEXT_SAMPLES, commands, text)
     if shutil.which("sigrok-cli"):

@@ -1,5 +1,6 @@
 """The stored streams, and what `watch` must give for them: worked out by hand, from document 01 and the chapter "Streams" of
-docs/CAPTURES.md; no program computes it. The script `make` writes them into the folder streams, and the large ones where it is told.
+docs/CAPTURES.md; no program computes it. Those with DOUT are in reads.py. The script `make` writes them into the folder streams, and the
+large ones where it is told.
 """
 import sales
 from writer import digit, first, played, row, scan, text
@@ -43,17 +44,6 @@ AFTER_ROW = 29
 RAW = {}
 
 RAW["sale"] = (head(3) + raw(sales.LINES), sales.WORDS, sales.SCREENS)
-
-# with the last chip's DOUT, and with its contrary, which isn't looked at
-RAW["sale_dout"] = (head(3) + raw(sales.LINES, sales.DOUT), sales.WORDS, sales.SCREENS)
-RAW["dout_ignored"] = (head(3) + raw(sales.LINES, [1 - level for level in sales.DOUT]), sales.WORDS, sales.SCREENS)
-
-# both kinds of samples in one row
-RAW["both_kinds"] = (
-    head(1) + b"".join(bytes([(0x00, 0x10, 0x18)[place % 3] + sample]) for place, sample in enumerate(row(KEYB))),
-    ["10000402"],
-    [DARK],
-)
 
 # a chip is put to sleep with its display on, and a key wakes it: the scan writes a screen, and no word
 RAW["woken_by_key"] = (
@@ -166,6 +156,10 @@ def large():
         "late_byte.raw": head(1) + b"\x07" * LATE + b"\x08",
         "late_byte.out": text([at(3 + LATE)]),
         "late_byte.screen": text([at(3 + LATE)]),
+        # with DOUT: low as the latch, then high in the sample after
+        "late_dout.raw": head(1) + b"\x14" * LATE + b"\x1E\x14",
+        "late_dout.out": text(["15%016X" % (3 + LATE)]),
+        "late_dout.screen": text(["15%016X" % (3 + LATE)]),
         "long.txt": text([first(8)] + lines),
         "long.raw": head(8) + raw(lines),
     }

@@ -1,19 +1,47 @@
-"""Used by random_captures: makes random streams for `watch`, raw ones and long texts, out of random captures."""
+"""Used by random_captures: makes random streams for `watch`, raw ones and long texts, out of random captures and tills."""
 import os
 import random
 
 from random_damage import damaged
+from random_tills import till
+
+
+def wrongs(rng, count):
+    """Of so many samples, what is recorded of DOUT: its level (0), the contrary (1), or nothing (None). Mostly its level; or it begins
+    late, lacks a piece or single ones, or is wrong for a while or now and then."""
+    kind = rng.randrange(16)
+    if kind < 3:
+        return [None] * count
+    levels = [0] * count
+    at = rng.randrange(count + 1)
+    if kind < 6:        # it begins late
+        levels[:at] = [None] * at
+    if 6 <= kind < 10:  # a piece
+        size = min(rng.randrange(40), count - at)
+        levels[at:at + size] = [None if kind < 8 else 1] * size
+    if kind == 10:      # any, or none
+        return [rng.choice([0, 1, None]) for _ in levels]
+    missing, wrong = rng.choice([(0, 0), (0, 0), (0.02, 0), (0, 0.02), (0.02, 0.02), (0.1, 0.1)])
+    chances = [(rng.random(), rng.random()) for _ in levels]
+    return [None if one < missing else 1 if other < wrong else level for (one, other), level in zip(chances, levels)]
 
 
 def raw_of(rng, lines):
-    """A capture as a raw stream: its samples without DOUT, with any, or with one now and then."""
-    with_dout = rng.choice([0, 0, 1, 0.5])
+    """A capture as a raw stream. A sample with DOUT is 10H + sample, or 18H + sample where DOUT is to be wrong; set_dout puts the levels in.
+    At times each sample stands twice, and the first time its DOUT may be any, as where it follows late."""
     stream = bytearray.fromhex(lines[0])
-    for frame in map(bytes.fromhex, lines[1:]):
+    frames = [bytes.fromhex(line) for line in lines[1:]]
+    late = rng.random() < 0.15
+    recorded = iter(wrongs(rng, sum(len(frame) - 1 for frame in frames if frame[0] == 1)))
+    for frame in frames:
         if frame[0] == 2:
             stream += bytes([0x80 + frame[1]]) + frame[2:]
-        else:
-            stream += bytes(0x10 + 8 * rng.randrange(2) + sample if rng.random() < with_dout else sample for sample in frame[1:])
+            continue
+        for sample in frame[1:]:
+            wrong = next(recorded)
+            if late:
+                stream.append(sample if wrong is None else 0x10 + 8 * rng.randrange(2) + sample)
+            stream.append(sample if wrong is None else 0x10 + 8 * wrong + sample)
     return bytes(stream)
 
 
@@ -41,10 +69,10 @@ def damaged_raw(rng, stream):
     return stream + rng.choice([b"\n", b"\xff", b"000101\n", stream])
 
 
-def long_lines(rng, capture):
-    """8 chips, and the lines of captures of any chips one after the other, more than a capture text may have."""
+def long_lines(rng, capture, longer):
+    """8 chips, and the lines of captures of any chips one after the other, longer than this."""
     lines, size = ["000108"], 0
-    while size <= 65536:
+    while size <= longer:
         body = capture(rng)[0][1:]
         lines += body
         size += sum(len(line) + 1 for line in body)
@@ -52,16 +80,19 @@ def long_lines(rng, capture):
 
 
 def write_streams(seed, count, folder, capture):
-    """Writes streams, about one in three damaged: most are raw, and of every fifty one is a long text, and one long and raw."""
+    """Writes streams, about one in four damaged: most are raw, every other of a till, and of every fifty one is a text longer than a
+    capture may be, and one a raw stream longer than 65,536 bytes."""
     rng = random.Random(seed)
     os.makedirs(folder, exist_ok=True)
     for number in range(count):
         is_text = number % 50 == 0
         lines, own = capture(rng)
         if number % 50 < 2:
-            lines = long_lines(rng, capture)
+            lines = long_lines(rng, capture, 65536 if is_text else 150000)
+        elif number % 2 == 0:
+            lines = till(rng)
         stream = "".join(line + "\n" for line in lines).encode() if is_text else raw_of(rng, lines)
-        if rng.random() < 0.35:
+        if rng.random() < 0.25:
             stream = damaged(rng, lines, own) if is_text else damaged_raw(rng, stream)
         with open(os.path.join(folder, "%05d.%s" % (number, "txt" if is_text else "raw")), "wb") as file:
             file.write(stream)

@@ -92,15 +92,6 @@ void twin_tally(const unsigned char *text, unsigned long length, unsigned long c
 
 /* ---- the lines ---- */
 
-static unsigned char *count_hex(unsigned char *to, unsigned long count)
-{
-    int place;
-
-    for (place = 56; place >= 0; place -= 8)
-        to = hex(to, count >> place & 0xFF);
-    return to;
-}
-
 unsigned long twin_tally_lines(const unsigned long chips[4 * MOST], const unsigned long codes[CODES], unsigned long largest,
                                const unsigned long answer[2], unsigned char out[TALLY_ROOM])
 {
@@ -110,12 +101,12 @@ unsigned long twin_tally_lines(const unsigned long chips[4 * MOST], const unsign
     for (k = 0; k < largest; k++) {
         to = hex(hex(to, 0x13), k);
         for (i = 0; i < COUNTS; i++)
-            to = count_hex(to, chips[COUNTS * k + i]);
+            to = hex_8(to, chips[COUNTS * k + i]);
         to = ended(to);
     }
     for (code = 0; code < CODES; code++) {
         if (codes[code] > 0)
-            to = ended(count_hex(hex(hex(to, 0x14), code), codes[code]));
+            to = ended(hex_8(hex(hex(to, 0x14), code), codes[code]));
     }
     if (answer[0] != 0)
         to = refusal_line(to, answer[0], answer[1]);

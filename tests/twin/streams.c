@@ -4,6 +4,7 @@ void watch_start(struct watch *w, int screen)
 {
     memset(w, 0, sizeof *w);
     w->screen = screen;
+    reads_start(&w->reads);
 }
 
 /* ---- refusals: nothing is taken after one ---- */
@@ -18,13 +19,8 @@ static unsigned char *refused_line(struct watch *w, unsigned long number, unsign
 /* A raw stream, at a byte's offset. */
 static unsigned char *refused_byte(struct watch *w, unsigned long offset, unsigned char *to)
 {
-    int place;
-
     w->refused = 1;
-    to = hex(hex(to, 0x1F), 10);
-    for (place = 56; place >= 0; place -= 8)
-        to = hex(to, offset >> place & 0xFF);
-    return ended(to);
+    return ended(hex_8(hex(hex(to, 0x1F), 10), offset));
 }
 
 /* ---- text ---- */
@@ -88,6 +84,25 @@ static __attribute__((noinline)) unsigned char *raw_loaded(struct chain *chain, 
     return loaded(chain, screen, to);
 }
 
+/* A sample with DOUT, or one without it after such a one: what DOUT told comes before what the sample does. */
+static inline __attribute__((always_inline)) unsigned char *played_with_dout(struct watch *w, unsigned n, unsigned byte,
+                                                                             unsigned long offset, unsigned char levels,
+                                                                             unsigned char *to)
+{
+    struct chain *chain = &w->chain;
+    const struct chip *last = &chain->chips[n - 1];
+    unsigned char sample = byte & 7;
+
+    if (w->reads.begun && (levels ^ sample) & (DCLK | LOAD))
+        to = looked(&w->reads, last, n - 1, levels, sample, to);
+    if (clocked(chain->chips, n, levels, sample)) {
+        to = raw_loaded(chain, w->screen, to);
+        after_load(&w->reads, last);
+    }
+    after_sample(&w->reads, byte, offset);
+    return to;
+}
+
 /* Samples, and scans that have come whole; w->passed counts the bytes. */
 static unsigned long watched_raw(struct watch *w, const unsigned char *bytes, unsigned long count, unsigned char **to)
 {
@@ -105,12 +120,16 @@ static unsigned long watched_raw(struct watch *w, const unsigned char *bytes, un
     while (i < count) {
         unsigned byte = bytes[i];
 
-        if (byte <= 7 || byte >> 4 == 1) {              /* bit 3 of 10H to 1FH is the recorded DOUT */
-            unsigned char sample = byte & 7;
-
-            if (clocked(chain->chips, n, levels, sample))
-                *to = raw_loaded(chain, w->screen, *to);
-            levels = sample;
+        if (byte <= 7 && !w->reads.begun) {             /* a run before any DOUT: in a loop of its own, which is faster */
+            do {
+                if (clocked(chain->chips, n, levels, byte))
+                    *to = raw_loaded(chain, w->screen, *to);
+                levels = (unsigned char)byte;
+                i++;
+            } while (i < count && (byte = bytes[i]) <= 7);
+        } else if (byte <= 7 || byte >> 4 == 1) {       /* bit 3 of 10H to 1FH is the recorded DOUT */
+            *to = played_with_dout(w, n, byte, w->passed + i, levels, *to);
+            levels = byte & 7;
             i++;
         } else if (byte >= 0x80 && byte < 0x80 + n) {
             if (count - i < 9)

@@ -11,6 +11,16 @@ static unsigned char *hex(unsigned char *to, unsigned byte)
     return to;
 }
 
+/* Eight bytes, high first. */
+static unsigned char *hex_8(unsigned char *to, unsigned long number)
+{
+    int place;
+
+    for (place = 56; place >= 0; place -= 8)
+        to = hex(to, number >> place & 0xFF);
+    return to;
+}
+
 static unsigned char *ended(unsigned char *to)
 {
     *to++ = '\n';

@@ -10,6 +10,7 @@
 #include "writer.c"
 #include "blocks.c"
 #include "text.c"
+#include "reads.c"
 #include "streams.c"
 #include "counts.c"
 #include "ch450.c"

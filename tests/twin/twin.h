@@ -88,14 +88,26 @@ enum { LONGEST_LINE = 67 };                             /* 01, 32 samples, and t
  * that hasn't ended, of a raw stream the beginning of its head or of a scan. */
 enum { WATCH_READ = 4096, WATCH_LEFT = LONGEST_LINE - 1 };
 
-/* The most that one block writes: a LOAD rise takes two samples, but for the first, whose fall came before; at the end comes a refusal
- * of a raw stream, 21 bytes. */
-#define WATCH_ROOM (((WATCH_LEFT + WATCH_READ) / 2 + 1) * MOST * SCREEN_LINE + 21)
+/* The most that one block writes: a LOAD rise takes two samples, but for the first, whose fall came before; a sample writes one line of
+ * what DOUT told at most; at the end comes a refusal of a raw stream, 21 bytes. */
+#define WATCH_ROOM (((WATCH_LEFT + WATCH_READ) / 2 + 1) * MOST * SCREEN_LINE + (WATCH_LEFT + WATCH_READ) * DOUT_LINE + 21)
+enum { DOUT_LINE = 19 };                                /* bytes of a line 15, the longest of 15 to 18 */
+
+/* What is kept of the last chip's recorded DOUT, "What the till read". */
+struct reads {
+    int begun;                                          /* a sample with DOUT has come */
+    unsigned char level;                                /* the last sample's DOUT, 0 or 1, or 2 where it has none */
+    unsigned long at;                                   /* where the last sample with DOUT stands in the stream */
+    unsigned char high;                                 /* DOUT when it was last looked at for an interrupt */
+    unsigned char contrary;                             /* it wasn't the latch when it was last looked at for that */
+    unsigned char code, bits, told;                     /* of a readout: its bits so far, how many they are, whether a cut was told */
+};
 
 struct watch {
     struct chain chain;                                 /* n is 0 before the first line or the head */
     int screen, begun, raw, refused;
     unsigned long passed;                               /* the lines, or the bytes of a raw stream, that were taken */
+    struct reads reads;
 };
 
 void watch_start(struct watch *w, int screen);
