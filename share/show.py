@@ -11,8 +11,8 @@
     ch450screen explain    each line of `ch450screen`, with the segments that are lit
     ch450screen picture    each line of `ch450screen`, with the digits drawn below it
 
-The lines come on standard input. REFUSED is what to say of a refusal line. (`watch`, whose lines are those of `replay` and `screen`, and
-times beside lines are shown by watch.py, by the same functions.)
+The lines come on standard input. REFUSED is what to say of a refusal line. (`watch`, whose lines are those of `replay` and `screen` and
+those about DOUT, and times beside lines are shown by watch.py, by the same functions.)
 """
 import signal
 import struct
@@ -84,6 +84,26 @@ def key_of(code):
     return "key %02XH (%s)" % (code - 0x40, place_of(code - 0x40))
 
 
+def code_read(code):
+    """What a code that was read says: its low six bits are the key's address, bit 6 whether it is pressed."""
+    return "code %02XH read: key %02XH (%s) %s" % (code, code & 0x3F, place_of(code & 0x3F), "pressed" if code & 0x40 else "released")
+
+
+DIFFERS = "DOUT isn't the latch at byte offset %d: the model and the panel disagree, or a wire is on the wrong pin"
+CUT = "readout cut: the till got no whole code"
+INTERRUPT = "interrupt seen"
+
+
+def looked(line, refused):
+    """The meaning of a line of `watch` about DOUT, 15 to 18, or of a refusal."""
+    frame = bytes.fromhex(line)
+    if frame[0] == 0x15:
+        return DIFFERS % int(line[2:], 16)
+    if frame[0] in (0x16, 0x17, 0x18):
+        return "chip %d: %s" % (frame[1], code_read(frame[2]) if frame[0] == 0x16 else CUT if frame[0] == 0x17 else INTERRUPT)
+    return refused(line)
+
+
 # what is on where a chip is put to sleep, by KEYB and DISP, the low two bits of its last system word
 STILL_ON = ("", "its display is", "its keypad is", "its display and its keypad are")
 
@@ -112,7 +132,7 @@ def explained(lines, refused):
                 text += "; the unread code %02XH of %s is lost" % (last_code[chip], key_of(last_code[chip]))
             last_code[chip] = code
         else:
-            text = refused(line)
+            text = looked(line, refused)
         yield "%-8s    %s" % (line, text)
 
 
@@ -129,7 +149,7 @@ def screen_explained(lines, refused):
     """The lines of `screen` and their meanings."""
     for line in lines:
         frame = bytes.fromhex(line)
-        yield "%s    %s" % (line, "chip %d: %s" % (frame[1], lit(frame[2:], 0)) if frame[0] == 0x30 else refused(line))
+        yield "%s    %s" % (line, "chip %d: %s" % (frame[1], lit(frame[2:], 0)) if frame[0] == 0x30 else looked(line, refused))
 
 
 # ---- --explain of ch450 ----
@@ -247,7 +267,7 @@ def drawn(lines, refused):
             yield line
             digits = list(enumerate(frame[1:], 2))[::-1]
         else:
-            yield "%s    %s" % (line, refused(line))
+            yield "%s    %s" % (line, looked(line, refused))
             continue
         for row in CELLS:
             yield (MARGIN + GAP.join([row[segments] for _, segments in digits])).rstrip()

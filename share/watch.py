@@ -20,15 +20,17 @@ sys.path.insert(0, os.path.dirname(os.path.abspath(__file__)))
 sys.dont_write_bytecode = True
 
 from probe import recording
+from probe.chain import DOUT
 from probe.options import FLAGS, OPTIONS, VALUED, Wanted, arguments
 from probe.ch450 import TwoWires
 from probe.refusal import BadUsage, Unwritten, say, why_not
 from probe.source import named, stream_of
 from show import SHOWN
 from watching.beside import Bounds, Clock, refusal
-from watching.events import Events, Stream
+from watching.events import Events
+from watching.feeding import feed_recording, feed_stream, is_recording
 from watching.moments import Moments
-from watching.running import AT_ONCE, Feeder, Program, Words, put
+from watching.running import Feeder, Program, Words, put
 
 OURS = {"from", "to", "times"}
 OF_TWO = set(OPTIONS[TwoWires])
@@ -54,69 +56,6 @@ def options_of(command, words):
     if "explain" in given and "picture" in given:
         raise BadUsage("--explain and --picture don't go together")
     return given, file
-
-
-def is_recording(file, of_import):
-    """Whether a file is a probe's recording, and no stream: by an option of import, by its name, or by its first bytes. One that is
-    named as raw samples are, and begins as a raw stream does, is a stream."""
-    if of_import or file == "-":
-        return bool(of_import)
-    head = b""
-    if os.path.isfile(file):
-        try:
-            with open(file, "rb") as opened:
-                head = opened.read(4)
-        except OSError:
-            return False
-    name = file.lower()
-    form = recording.ENDINGS.get(os.path.splitext(name[:-3] if name.endswith(".gz") else name)[1])
-    if form == "raw" and recording.STREAM.match(head):
-        return False
-    return form is not None or head.startswith((b"$", recording.ZIP, recording.GZIP))
-
-
-# ---- what is fed ----
-
-
-def feed_recording(file, wanted, events):
-    """What feeds a recording to the program, as a raw stream."""
-    text = wanted.text
-    text.stream = True
-    text.say = lambda line: say("%s: %s" % (named(file), line))
-    events.chips = text.chips
-    opened = recording.Recording(file, wanted, live=True)
-
-    def work(feed):
-        def out(data, samples, times):
-            if times:
-                events.samples(samples, times)
-            feed(data)
-        text.out = out
-        try:
-            opened.read()
-        finally:
-            text.hand_on()
-        for line in text.remarks():
-            text.say(line)
-    return work
-
-
-def feed_stream(file, moments, events):
-    """What feeds a stream to the program, whose times stand in a file."""
-    source = stream_of(file)
-
-    def work(feed):
-        stream = Stream(moments, events)
-        more = True
-        while more and not stream.refused:
-            data = source.read1(AT_ONCE)
-            if not data:
-                feed(stream.end())
-                return
-            more = feed(stream.take(data))
-        if stream.refused:
-            raise stream.refused
-    return work
 
 
 # ---- what is shown ----
@@ -157,6 +96,7 @@ def watched(command, given, file):
     beside = file + ".times" if file != "-" and os.path.isfile(file + ".times") else None
     live = command == "watch" and is_recording(file, of_import)
     moments = words = None
+    dout = False                # whether a recording's DOUT is kept
     if "times" in given and live:
         raise BadUsage("--times goes with a stream; a recording has its own times")
     if file == given.get("times") == "-":
@@ -167,17 +107,18 @@ def watched(command, given, file):
         wanted = Wanted(given)
         wanted.text.wants_times = bool(how or bounds.options)
         wanted.text.needs_times = bounds.options
+        dout = DOUT in wanted.names and bool(how or bounds.options)
         work = feed_recording(file, wanted, events)
     elif given.get("times", beside) and (how or bounds.options):
         moments = Moments(given.get("times", beside))
-        work = feed_stream(file, moments, events)
+        work = feed_stream(stream_of(file), moments, events)
     elif bounds.options:
         raise BadUsage("%s: no times are known; --times names a file of them" % bounds.options)
     else:
         work = None
     program = Program([command] + ["--screen"] * (command == "watch" and screen), None if work else stream_of(file))
     if work:
-        words = Words(events) if moments and screen else None
+        words = Words(events) if screen and (moments or dout) else None
         feeder = Feeder(work, [program] + ([words.program] if words else []))
         feeder.start()
     try:

@@ -1,4 +1,4 @@
-"""What was typed: the options of `import`, which `watch` takes too, and one file."""
+"""What was typed: the options of `import`, which `watch` and `reads` take too, and the files."""
 import os
 import re
 
@@ -21,8 +21,8 @@ FASTEST = 10 ** 12
 NUMBERS = {2: "two", 3: "three", 4: "four"}
 
 
-def arguments(words, flags, valued, command):
-    """The options as given, and the one file."""
+def options_and_files(words, flags, valued):
+    """The options as given, and the files."""
     given = {}
     files = []
     words = list(words)
@@ -46,6 +46,12 @@ def arguments(words, flags, valued, command):
         if given.get(name, value) != value:
             raise BadUsage("--%s is given twice" % name)
         given[name] = value
+    return given, files
+
+
+def arguments(words, flags, valued, command):
+    """The options as given, and the one file."""
+    given, files = options_and_files(words, flags, valued)
     if len(files) != 1:
         raise BadUsage("%s takes one file" % command)
     return given, files[0]
@@ -85,11 +91,12 @@ class Wanted:
     """The options, tested: the format or None, the text to be made, the wires' names, the bytes of a raw sample or None and its bits, its
     samplerate or None."""
 
-    def __init__(self, given):
+    def __init__(self, given, kind=None):
+        """`kind` is that of the panel, where the options don't tell it."""
         self.form = given.get("format")
         if self.form not in (None, *FORMS):
             raise BadUsage("no such format: %s" % shown(self.form))
-        kind = kind_of(given)
+        kind = kind or kind_of(given)
         number_of = NUMBERS[len(kind.wires)]
         chips = number(given, "chips", 1, MOST_CHIPS)
         key = bytes_of(given, "key", 1, 0x7F, "two hexadecimal digits, 00 to 7F")

@@ -4,7 +4,11 @@ from decimal import Decimal
 
 from probe.refusal import BadUsage, Unwritten
 
+from .looks import Looks
+from .stretch import Stretch
+
 SLEEP = 0x202
+LOOKED = ("15", "16", "17", "18")     # lines of looks at DOUT
 DARK = "0" * 16
 FORM = "refusal 10, line %d: the line isn't of the form that a capture text has, or is missing"
 ITEM = "refusal 10, byte offset %d: the byte can't stand there in a stream, or is missing"
@@ -47,12 +51,14 @@ class Bounds:
 
 
 class Clock:
-    """Gives each line its time, as the lines come: a LOAD rise writes a line for each chip, and a scan's line has none. On a screen the
-    two look the same, and the words of the rises tell them apart: a scan writes a line where it wakes a chip that then is lit. Asleep is a
-    chip whose last word is sleep, and what it would show is what it showed when it last was awake."""
+    """Gives each line its time, as the lines come: a LOAD rise writes a line for each chip, a look at DOUT has its own time (looks.py),
+    and a scan's line has none. On a screen the lines of rises and scans look the same, and the words of the rises tell them apart: a scan
+    writes a line where it wakes a chip that then is lit. Asleep is a chip whose last word is sleep, and what it would show is what it
+    showed when it last was awake."""
 
     def __init__(self, events, words):
         self.events, self.words = events, words
+        self.looks = Looks(events.first)
         self.time = None
         self.left = 0               # lines of the same rise that are still to come
         self.obeyed = []            # the words of this rise
@@ -61,9 +67,11 @@ class Clock:
 
     def of(self, line):
         """The time of a line, or None."""
-        if line[:2] not in ("10", "30") or not self.events.known:
+        if not self.events.known:
             return None
-        if not self.left and not self.rise():
+        if line[:2] in LOOKED:
+            return self.looks.time(line)
+        if line[:2] not in ("10", "30") or not self.left and not self.rise():
             return None
         self.left -= 1
         if self.words:
@@ -73,19 +81,22 @@ class Clock:
             else:
                 self.asleep.discard(chip)
                 self.awake[chip] = line[4:]
+        if not self.left and (self.words or line[:2] == "10"):
+            self.looks.obeyed(self.obeyed[-1] if self.words else int(line[4:], 16))
         return self.time
 
     def rise(self):
         """Whether the next line is that of a LOAD rise; its time is then in `time`."""
         while True:
             event = self.events.waiting.popleft()
-            if isinstance(event, str):
+            if isinstance(event, Stretch):
                 break
             if self.words and event in self.asleep:
                 self.asleep.discard(event)
                 if self.awake.get(event, DARK) != DARK:
                     return False
-        self.time, self.left = event, self.events.chips
+        self.time, self.left = event.time, self.events.chips
+        self.looks.next(event)
         if self.words:
             self.obeyed = self.words.rises.get()
             if self.obeyed is None:

@@ -1,21 +1,26 @@
-"""Where the lines come from: the LOAD rises of a stream with their times, and the scans that may light a chip, in their order."""
+"""Where the lines come from: the LOAD rises of a stream with their times, and the scans that may light a chip, in their order; and of
+samples with a recorded DOUT what tells the times of the lines 15 to 18."""
 import re
 from collections import deque
 
 from probe.refusal import WrongTimes
 
-IDLE = 7
+from .stretch import IDLE, Stretch
+
 LOADS = bytes(level >> 2 & 1 for level in range(256))
 NO_SAMPLE = re.compile(rb"[^\x00-\x07\x10-\x1f]")
+WITH_DOUT = re.compile(rb"[\x10-\x1f]")
 HEAD = re.compile(rb"\x00\x01[\x01-\x08]")
 SCAN = 0x80
+DOUT = 8
 WAKING = bytes(byte & 0x0F for byte in range(256))      # the contacts of SEG0 to SEG3, which wake a chip
 LINE = re.compile(rb"01(?:0[0-7]){1,32}|020[0-7](?:[0-9A-F]{2}){8}|00010[1-8]")
 LONGEST_LINE = 2 + 2 * 32
 
 
 class Events:
-    """What happened, for the one who reads the lines: a time for each LOAD rise, or the chip of a scan that may wake it."""
+    """What happened, for the one who reads the lines: the stretch of samples that each LOAD rise begins, with its time, or the chip of a
+    scan that may wake it."""
 
     def __init__(self):
         self.waiting = deque()
@@ -23,22 +28,47 @@ class Events:
         self.chips = 0
         self.width = 0              # characters of the first time
         self.level = IDLE
+        self.offset = 3             # of the next byte, in a raw stream
+        self.looking = False        # whether a sample with a recorded DOUT has come
+        self.douts = set()          # the levels of DOUT that were recorded
+        self.first = self.stretch = Stretch(None, False)        # before the first rise, and now
         self.scanned = set()        # the chips of such scans since the last rise
 
     def samples(self, samples, times):
-        """Samples with their times."""
+        """Samples, and their times, or None."""
+        with_dout = WITH_DOUT.search(samples)
+        if with_dout:
+            self.douts |= {sample & DOUT for sample in set(samples) if sample >= 0x10}
+        if times is not None:
+            self.timed(samples, times, with_dout.start() if with_dout else len(samples))
+        self.looking = self.looking or bool(with_dout)
+        self.level = samples[-1]
+        self.offset += len(samples)
+
+    def timed(self, samples, times, dout):
+        """The stretches of samples with times. `dout` is the place of the first with a recorded DOUT."""
         self.known = True
         self.width = self.width or len(times[0])
+        kept = self.looking or dout < len(samples)
         loads = (bytes([self.level]) + samples).translate(LOADS)
+        start = 0
         at = loads.find(b"\0\1")
         while at >= 0:
-            self.waiting.append(times[at])
+            if kept:
+                self.stretch.take(self.offset + start, samples[start:at + 1], times[start:at + 1])
+                self.stretch.end(samples[at - 1] if at else self.level, times[at])
+            else:
+                self.stretch.drop()
+            self.stretch = Stretch(times[at], self.looking or dout < at)
+            self.waiting.append(self.stretch)
             self.scanned.clear()
+            start = at
             at = loads.find(b"\0\1", at + 1)
-        self.level = samples[-1]
+        self.stretch.take(self.offset + start, samples[start:], times[start:])
 
     def scan(self, chip, contacts):
         """A scan. After the first that may wake a chip it is awake, up to the next rise."""
+        self.offset += 9
         if contacts.translate(WAKING).strip(b"\0") and chip not in self.scanned:
             self.scanned.add(chip)
             self.waiting.append(chip)
@@ -82,8 +112,8 @@ class Stream:
     def samples(self, samples):
         """Samples that are next; an exception where there aren't times for all of them. How many had one is in `had`."""
         times = self.moments.take(len(samples))
-        self.had = len(times)
-        if times:
+        self.had = len(samples) if times is None else len(times)
+        if self.had:
             self.events.samples(samples[:self.had], times)
         if self.had < len(samples):
             raise self.moments.fewer()

@@ -50,3 +50,14 @@ class Moments:
         """The samples end; so must the times."""
         if next(iter(self.file), b""):
             raise WrongTimes("%s, line %d: there are more times than samples" % (self.name, self.line + 1))
+
+
+class Untimed:
+    """A stream whose samples have no times."""
+
+    def take(self, count):
+        """There are none."""
+        return None
+
+    def end(self):
+        """Nor are there more of them."""

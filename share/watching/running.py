@@ -74,14 +74,16 @@ class Words:
         threading.Thread(target=self.read, daemon=True).start()
 
     def read(self):
-        """All lines 10, as many in a list as there are chips; None where it ends, after what it said."""
+        """All lines 10, as many in a list as there are chips, where there are times to be told; None where it ends, after what it
+        said."""
         words = []
         for lines in self.program.lines():
             for line in lines:
                 if line.startswith("10"):
                     words.append(int(line[4:], 16))
                     if len(words) == self.events.chips:
-                        self.rises.put(words)
+                        if self.events.known:
+                            self.rises.put(words)
                         words = []
         self.program.sayer.join()
         self.rises.put(None)
