@@ -49,3 +49,4 @@ pub mod WiresForms
 pub mod ExactWires
 pub mod WiresUnchanged
 pub mod Watching
+pub mod Reading

@@ -21,3 +21,4 @@ pub mod PanelBlocks
 pub mod Asleep
 pub mod Alone
 pub mod Watching
+pub mod Reading

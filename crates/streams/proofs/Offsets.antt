@@ -26,13 +26,13 @@ use Rattle.capture.specs.Replay.{taken}
 use Rattle.reads.specs.declared.Reader.{Reader}
 use Rattle.reads.specs.Reads.{startReader, nextOffset, isSample}
 use Rattle.streams.specs.Raw.{Item, itemTaken, rawRefusal, wrong, isScan, itemOf, rawFrom}
-use Rattle.streams.specs.Same.{AllGiven, rawOf, frameOf, rawOfAll, textOfAll, rawStream, captureText}
+use Rattle.streams.specs.Same.{AllGiven, pastBytes, rawOf, frameOf, rawOfAll, textOfAll, rawStream, captureText}
 use Rattle.streams.specs.Streams.{watchOut}
 use Rattle.streams.specs.Text.{mostLines, longOut}
 use Rattle.streams.proofs.Hex.{line-back, lines-written}
 use Rattle.streams.proofs.Limits.{limited, limited-more, firstLimited, long-first, NoEnd, lines-held}
 use Rattle.streams.proofs.Raws.{raw-more}
-use Rattle.streams.proofs.SameFrames.{saysSo, givenOut, pastBytes, itemsOut, raw-item, raw-given, frame-below, line-form, item-then, first-given, whole-text}
+use Rattle.streams.proofs.SameFrames.{saysSo, givenOut, itemsOut, raw-item, raw-given, frame-below, line-form, item-then, first-given, whole-text}
 
 next-within : (offset : ℕ) → offset + 1 < 2 ^ 64 → nextOffset offset ≡ offset + 1
 next-within offset h = omega arith

@@ -1,7 +1,7 @@
 -- A raw stream whose items may all stand there, without a recorded DOUT, writes what the capture text of the same frames writes.
 --     saysSo                  what an item says
 --     givenOut, linesOfAll    what items write in a text, one after another; a line for each
---     pastBytes, itemsOut     the offset past bytes; what items write in a raw stream, from an offset on
+--     itemsOut                what items write in a raw stream, from an offset on
 --     raw-item, raw-given     what one item writes, and then the rest, from the offset past it on; and all items
 --     plain-given             without a recorded DOUT they write what they write in a text
 --     frame-below, line-form  an item's line is of bytes, and of its form
@@ -34,7 +34,7 @@ use Rattle.reads.specs.declared.Reader.{Reader}
 use Rattle.reads.specs.Reads.{looking, startReader, Sampled, sampled, isSample, nextOffset}
 use Rattle.reads.proofs.Plain.{plain-sample}
 use Rattle.streams.specs.Raw.{Item, sample, scanned, itemTaken, whole, begun, isScan, itemOf, rawFrom}
-use Rattle.streams.specs.Same.{IsGiven, AllGiven, AllPlain, rawOf, frameOf, rawOfAll, textOfAll, rawStream, captureText}
+use Rattle.streams.specs.Same.{IsGiven, AllGiven, AllPlain, pastBytes, rawOf, frameOf, rawOfAll, textOfAll, rawStream, captureText}
 use Rattle.streams.specs.Streams.{watchOut}
 use Rattle.streams.specs.Text.{mostLines, longOut}
 use Rattle.streams.proofs.Hex.{line-back, lines-written}
@@ -50,11 +50,6 @@ saysSo (scanned k bytes) = scan k bytes
 unfoldable pub givenOut : Report → ℕ → Chain → List Item → List ℕ
 givenOut what n ch [] = []
 givenOut what n ch (g ∷ gs) = outOf (taken what n ch (saysSo g) .told) ++ givenOut what n (taken what n ch (saysSo g) .state) gs
-
--- the offset past bytes
-unfoldable pub pastBytes : ℕ → List ℕ → ℕ
-pastBytes offset [] = offset
-pastBytes offset (b ∷ bytes) = pastBytes (nextOffset offset) bytes
 
 -- what items of a raw stream write, from an offset on
 unfoldable pub itemsOut : Report → ℕ → ℕ → Chain → Reader → List Item → List ℕ

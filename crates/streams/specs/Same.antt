@@ -8,7 +8,7 @@ use mathlib.Core.List.{List, [], _∷_, _++_}
 use lib.ListN.{length}
 use Rattle.base.specs.Below.{AllBelow}
 use Rattle.lines.specs.Lines.{lineFor}
-use Rattle.reads.specs.Reads.{isSample}
+use Rattle.reads.specs.Reads.{isSample, nextOffset}
 use Rattle.streams.specs.Raw.{Item, sample, scanned}
 
 -- it may stand in a stream of N chips
@@ -46,6 +46,11 @@ rawOfAll (g ∷ gs) = rawOf g ++ rawOfAll gs
 unfoldable pub textOfAll : List Item → List ℕ
 textOfAll [] = []
 textOfAll (g ∷ gs) = lineFor (frameOf g) ++ textOfAll gs
+
+-- the offset past bytes
+unfoldable pub pastBytes : ℕ → List ℕ → ℕ
+pastBytes offset [] = offset
+pastBytes offset (b ∷ bytes) = pastBytes (nextOffset offset) bytes
 
 -- the raw stream: 00 01 N, and the items
 abbrev pub rawStream : ℕ → List Item → List ℕ
