@@ -1,5 +1,6 @@
 -- Chips of a chain by their places: what a sample does to each.
 --     part-at      lists of chips alike in a part are alike in it at each place
+--     row-at       what holds of a chip before and after a sample holds at each place
 --     obeys-at     at a LOAD rise each chip obeys the word that is then in its register
 -- Assumes nothing.
 use mathlib.Core.Path.{_≡_, refl, ap, sym, _∙_}
@@ -22,7 +23,7 @@ pub part-at : {A : Type 0} (f : Chip → A) (cs ds : List Chip) (k : ℕ) (d : C
 part-at f cs ds k d e = sym (List·getD-map f cs k d) ∙ ap (λ xs. getD xs k (f d)) e ∙ List·getD-map f ds k d
 
 -- what holds of a chip before and after a sample, whatever stands at its DIN, holds at each place
-row-at : (P : Chip → Chip → Type 0) (was now : ℕ) → ((b : Bool) (c : Chip) → P c (stepped was now b c))
+pub row-at : (P : Chip → Chip → Type 0) (was now : ℕ) → ((b : Bool) (c : Chip) → P c (stepped was now b c))
     → (n k : ℕ) (b : Bool) (cs : List Chip) (d : Chip) → k < n → k < length cs
     → P (getD cs k d) (getD (steppedRow n was now b cs) k d)
 unfolding steppedRow

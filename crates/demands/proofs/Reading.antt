@@ -5,7 +5,7 @@
 use mathlib.Core.Path.{_≡_, refl, ap, sym, subst, _∙_}
 use mathlib.Core.Bool.{true, false}
 use mathlib.Core.List.{List, [], _∷_, _++_, append-assoc}
-use Prim.Native.Nat.{ℕ, suc, zero, _-_, _%_}
+use Prim.Native.Nat.{ℕ, _-_, _%_}
 use native.Mathlib.Omega.{arith}
 use lib.Dec.{T}
 use lib.ListN.{getD-replicate}
@@ -23,9 +23,9 @@ use Rattle.capture.specs.Reports.{atScan}
 use Rattle.reads.specs.declared.Reader.{Reader}
 use Rattle.reads.specs.Notes.{noteLine}
 use Rattle.reads.specs.Reads.{lastChip, startReader, lookAt, sampled}
-use Rattle.reads.specs.Till.{chainAfter, seenAfter, runs}
+use Rattle.reads.specs.Till.{chainAfter, runs}
 use Rattle.reads.proofs.Trusted.{codes-read, no-cut, no-difference}
-use Rattle.streams.specs.Raw.{Item, sample, scanned, rawRefusal, itemTaken, rawFrom}
+use Rattle.streams.specs.Raw.{Item, sample, scanned, rawRefusal, rawFrom}
 use Rattle.streams.specs.Same.{pastBytes, rawOf, rawOfAll, rawStream}
 use Rattle.streams.proofs.SameFrames.{itemsOut, raw-given}
 use Rattle.demands.specs.Reading.{placedItem, placedItems, writtenBy, NotesWritten, CodesRead}

@@ -13,3 +13,7 @@ pub mod Parted
 pub mod Recordings
 pub mod Unscanned
 pub mod Probe
+pub mod Bytes
+pub mod Shadows
+pub mod Watching
+pub mod Unique

@@ -1,19 +1,20 @@
 -- Samples played with the looks before them, seen from the places of the code that plays them.
 --     rises-few, sampled-few, sampled-all-few       how much samples write
 --     sampled-so                                    one sample
---     next-sample                                   the next sample, and those after it
---     Playing, playing-start, playing-room, playing-more, playing-over     the loop over them
+--     runs-one, runs-more                           it alone, and some samples and then others
+--     rest-all                                      the rest, as the code takes it
+--     Playing, playing-start, playing-size, playing-room, playing-more, playing-some, playing-over     the first of them, and the next
 -- Assumes nothing.
 use mathlib.Core.Path.{_≡_, refl, ap, ap₂, sym, subst, _∙_}
 use mathlib.Core.Bool.{true}
-use mathlib.Core.List.{List, [], _∷_, _++_}
+use mathlib.Core.List.{List, [], _∷_, _++_, append-assoc, append-nil}
 use Prim.Native.Nat.{ℕ, _+_, _*_, _-_, _%_, _^_, _≤_, _<_}
 use native.Mathlib.Nat.{mul-le-mul-right}
 use native.Mathlib.Omega.{arith}
 use lib.Dec.{T}
-use lib.ListN.{length, getD, drop, length-append, length-drop, drop-of-length-le}
-use Rattle.base.proofs.Lent.{Fills, fills-start, fills-more, fills-over, placed-length}
-use Rattle.base.proofs.Lists.{rest-is}
+use lib.ListN.{length, take, drop, length-append, length-drop}
+use lib.Seq.{length-take-le, take-add, take-all}
+use Rattle.base.proofs.Lent.{placed-length}
 use Rattle.chain.specs.declared.Chain.{Chain}
 use Rattle.chain.specs.Chain.{chipCount, played}
 use Rattle.chain.specs.Entries.{chipAt}
@@ -25,13 +26,14 @@ use Rattle.capture.specs.declared.walk.Took.{Took}
 use Rattle.capture.specs.Parts.{Takes}
 use Rattle.capture.specs.Replay.{risesIn}
 use Rattle.capture.specs.Takes.{samplesWhere}
+use Rattle.capture.proofs.Reported.{none-put}
 use Rattle.capture.proofs.Room.{rises-room}
 use Rattle.capture.proofs.Taken.{samples-where, width-most}
 use Rattle.reads.specs.declared.Looked.{Looked}
 use Rattle.reads.specs.declared.Ran.{Ran}
 use Rattle.reads.specs.declared.Reader.{Reader}
 use Rattle.reads.specs.Notes.{noteLine}
-use Rattle.reads.specs.Parts.{sampleRoom, Runs}
+use Rattle.reads.specs.Parts.{sampleRoom, Runs, RunsSome}
 use Rattle.reads.specs.Reads.{lookAt, kept, Sampled, sampled, sampledAll, nextOffset}
 use Rattle.reads.proofs.Looking.{note-length}
 
@@ -83,89 +85,128 @@ module _ (what : Report) (n : ℕ) (count : chipCount n ≡ true) where
         puts = subst (λ (x : Looked). Puts (noteLine (n - 1) (x .note) ++ risesIn what n (b % 8 ∷ []) ch) at out (took .at) out₂) looked all;
       }
 
--- ---- the loop
+-- ---- samples after others
+
+-- the rest, as the code takes it
+pub rest-all : (i : ℕ) (bytes : List ℕ) → take (length bytes - i) (drop i bytes) ≡ drop i bytes
+rest-all i bytes = take-all (length bytes - i) (drop i bytes) (omega (arith, length-drop i bytes))
+
+-- the offset of the sample at a place
+abbrev pub offsetAt : ℕ → ℕ → ℕ
+offsetAt offset i = (offset + i) % 2 ^ 64
 
 module _ (what : Report) (n : ℕ) where
-  -- the offset of the sample at a place
-  abbrev offsetAt : ℕ → ℕ → ℕ
-  offsetAt offset i = (offset + i) % 2 ^ 64
+  -- what some come to, and then the rest
+  abbrev andThen : Sampled → Sampled → Sampled
+  andThen x rest = record { chain = rest .chain; reader = rest .reader; out = x .out ++ rest .out }
 
-  pub next-sample : (offset : ℕ) (bytes : List ℕ) (i : ℕ) (ch : Chain) (r : Reader) → i < length bytes
-      → sampledAll what n (offsetAt offset i) (drop i bytes) ch r
-      ≡ (let x = sampled what n (offsetAt offset i) (getD bytes i 0) ch r in
-      let rest = sampledAll what n (offsetAt offset (i + 1)) (drop (i + 1) bytes) (x .chain) (x .reader) in
-      record { chain = rest .chain; reader = rest .reader; out = x .out ++ rest .out })
+  sampled-append : (offset : ℕ) (xs ys : List ℕ) (ch : Chain) (r : Reader) → offset < 2 ^ 64
+      → sampledAll what n offset (xs ++ ys) ch r
+      ≡ (let x = sampledAll what n offset xs ch r in
+      andThen x (sampledAll what n (offsetAt offset (length xs)) ys (x .chain) (x .reader)))
   unfolding sampledAll
-  next-sample offset bytes i ch r h =
-      let x = sampled what n (offsetAt offset i) (getD bytes i 0) ch r in
-      let next : nextOffset (offsetAt offset i) ≡ offsetAt offset (i + 1) = omega arith in
-      ap (λ rest. sampledAll what n (offsetAt offset i) rest ch r) (rest-is bytes i 0 h)
-      ∙ ap (λ (at : ℕ). let rest = sampledAll what n at (drop (i + 1) bytes) (x .chain) (x .reader) in
-      record { chain = rest .chain; reader = rest .reader; out = x .out ++ rest .out })
-      next
+  sampled-append offset [] ys ch r low =
+      let same : offset ≡ offsetAt offset 0 = omega arith in
+      ap (λ (o : ℕ). sampledAll what n o ys ch r) same
+  sampled-append offset (b ∷ xs) ys ch r low =
+      let x = sampled what n offset b ch r in
+      let rest = sampledAll what n (nextOffset offset) xs (x .chain) (x .reader) in
+      let next : offsetAt (nextOffset offset) (length xs) ≡ offsetAt offset (length (b ∷ xs)) = omega arith in
+      let left : ℕ → Sampled = λ o. sampledAll what n o ys (rest .chain) (rest .reader) in
+      ap (andThen x) (sampled-append (nextOffset offset) xs ys (x .chain) (x .reader) (omega arith))
+      ∙ ap (λ (o : ℕ). andThen x (andThen rest (left o))) next
+      ∙ ap (λ out. record { chain = left (offsetAt offset (length (b ∷ xs))) .chain; reader = left (offsetAt offset (length (b ∷ xs))) .reader; out = out })
+      (sym (append-assoc (x .out) (rest .out) (left (offsetAt offset (length (b ∷ xs))) .out)))
 
-  -- from a place on: what is left comes to what the whole comes to
-  pub record Playing (offset : ℕ) (bytes : List ℕ) (ch₀ : Chain) (r₀ : Reader) (at : ℕ) (out₀ : List ℕ) (ch : Chain) (r : Reader) (end i : ℕ) (out : List ℕ) : Type 0 where
-    pub within : i ≤ length bytes
-    pub chain : sampledAll what n (offsetAt offset i) (drop i bytes) ch r .chain ≡ sampledAll what n offset bytes ch₀ r₀ .chain
-    pub reader : sampledAll what n (offsetAt offset i) (drop i bytes) ch r .reader ≡ sampledAll what n offset bytes ch₀ r₀ .reader
-    pub fills : Fills at (sampledAll what n offset bytes ch₀ r₀ .out) out₀ end (sampledAll what n (offsetAt offset i) (drop i bytes) ch r .out) out
-    pub room : end + sampleRoom * length (drop i bytes) ≤ length out
+  -- one sample
+  pub runs-one : (offset b : ℕ) (ch : Chain) (r : Reader) {at : ℕ} {out : List ℕ} {ran : Ran} {out′ : List ℕ} → Runs (sampled what n offset b ch r) 1 at out ran out′
+      → Runs (sampledAll what n offset (b ∷ []) ch r) 1 at out ran out′
+  unfolding sampledAll
+  runs-one offset b ch r {at} {out} {ran} {out′} made =
+      let x = sampled what n offset b ch r in
+      subst (λ (y : Sampled). Runs y 1 at out ran out′) (ap (λ o. record { chain = x .chain; reader = x .reader; out = o }) (sym (append-nil (x .out)))) made
 
-  pub playing-start : (offset : ℕ) (bytes : List ℕ) (ch : Chain) (r : Reader) (at : ℕ) (out : List ℕ) → offset < 2 ^ 64 → at + sampleRoom * length bytes ≤ length out
-      → Playing offset bytes ch r at out ch r at 0 out
-  playing-start offset bytes ch r at out low room =
-      let same : offsetAt offset 0 ≡ offset = omega arith in
-      let same-all : sampledAll what n (offsetAt offset 0) bytes ch r ≡ sampledAll what n offset bytes ch r = ap (λ (o : ℕ). sampledAll what n o bytes ch r) same in
+  -- some, and then others
+  pub runs-more : (offset : ℕ) (xs ys : List ℕ) (ch : Chain) (r : Reader) {i j at : ℕ} {out : List ℕ} → offset < 2 ^ 64 → length xs ≡ i → chipCount n ≡ true
+      → at + sampleRoom * length (xs ++ ys) ≤ length out
+      → {ran : Ran} {out₁ : List ℕ} → Runs (sampledAll what n offset xs ch r) i at out ran out₁
+      → {place : ℕ} → place ≡ offsetAt offset i
+      → {next : Ran} {out₂ : List ℕ} → Runs (sampledAll what n place ys (ran .chain) (ran .reader)) j (ran .at) out₁ next out₂
+      → Runs (sampledAll what n offset (xs ++ ys) ch r) (i + j) at out (record { chain = next .chain; reader = next .reader; count = i + j; at = next .at }) out₂
+  runs-more offset xs ys ch r {i} {j} {at} {out} low long count room {ran} {out₁} made {place} placed {next} {out₂} more =
+      let x = sampledAll what n offset xs ch r in
+      let rest = sampledAll what n place ys (ran .chain) (ran .reader) in
+      let whole = sampledAll what n offset (xs ++ ys) ch r in
+      let same : andThen x rest ≡ whole =
+      ap (λ (o : ℕ). andThen x (sampledAll what n o ys (ran .chain) (ran .reader))) (placed ∙ ap (λ (m : ℕ). offsetAt offset m) (sym long))
+      ∙ ap₂ (λ c q. andThen x (sampledAll what n (offsetAt offset (length xs)) ys c q)) (made .chain) (made .reader)
+      ∙ sym (sampled-append offset xs ys ch r low) in
       record {
-        within = omega arith;
-        chain = ap (λ (x : Sampled). x .chain) same-all;
-        reader = ap (λ (x : Sampled). x .reader) same-all;
-        fills =
-            subst (λ (x : Sampled). Fills at (sampledAll what n offset bytes ch r .out) out at (x .out) out) (sym same-all)
-            (fills-start at (sampledAll what n offset bytes ch r .out) out);
-        room = room;
+        chain = more .chain ∙ ap (λ (y : Sampled). y .chain) same;
+        reader = more .reader ∙ ap (λ (y : Sampled). y .reader) same;
+        counts = refl;
+        puts =
+            subst (λ (y : Sampled). Puts (y .out) at out (next .at) out₂) same
+            (puts-both (x .out) (rest .out)
+            (omega (arith, ap (λ (y : Sampled). length (y .out)) same, sampled-all-few what n count offset (xs ++ ys) ch r))
+            (made .puts) (more .puts));
       }
 
-  module _ {offset : ℕ} {bytes : List ℕ} {ch₀ : Chain} {r₀ : Reader} {at : ℕ} {out₀ : List ℕ} {ch : Chain} {r : Reader} {end i : ℕ} {out : List ℕ}
-      (p : Playing offset bytes ch₀ r₀ at out₀ ch r end i out) where
-    pub playing-over : length bytes ≤ i → Runs (sampledAll what n offset bytes ch₀ r₀) (length bytes) at out₀ (record { chain = ch; reader = r; count = i; at = end }) out
-    unfolding sampledAll
+  -- ---- the first of them
+
+  -- so many of the first were played, where there is room for all
+  pub record Playing (offset : ℕ) (bytes : List ℕ) (ch₀ : Chain) (r₀ : Reader) (at : ℕ) (out₀ : List ℕ) (ran : Ran) (out : List ℕ) : Type 0 where
+    pub within : ran .count ≤ length bytes
+    pub runs : Runs (sampledAll what n offset (take (ran .count) bytes) ch₀ r₀) (ran .count) at out₀ ran out
+
+  pub playing-start : (offset : ℕ) (bytes : List ℕ) (ch : Chain) (r : Reader) (at : ℕ) (out : List ℕ)
+      → Playing offset bytes ch r at out (record { chain = ch; reader = r; count = 0; at = at }) out
+  unfolding sampledAll
+  playing-start offset bytes ch r at out = record { within = omega arith; runs = record { chain = refl; reader = refl; counts = refl; puts = none-put at out } }
+
+  module _ {offset : ℕ} {bytes : List ℕ} {ch₀ : Chain} {r₀ : Reader} {at : ℕ} {out₀ : List ℕ} {ran : Ran} {out : List ℕ}
+      (count : chipCount n ≡ true) (fits : at + sampleRoom * length bytes ≤ length out₀) (p : Playing offset bytes ch₀ r₀ at out₀ ran out) where
+    abbrev first : List ℕ
+    first = take (ran .count) bytes
+
+    first-length : length first ≡ ran .count
+    first-length = length-take-le (ran .count) bytes (p .within)
+
+    few : length (sampledAll what n offset first ch₀ r₀ .out) ≤ sampleRoom * length first
+    few = sampled-all-few what n count offset first ch₀ r₀
+
+    pub playing-size : length out ≡ length out₀
+    playing-size = ap length (p .runs .puts .bytes) ∙ placed-length out₀ at (sampledAll what n offset first ch₀ r₀ .out) (omega (arith, few, first-length, p .within))
+
+    pub playing-room : ran .at + sampleRoom * length (drop (ran .count) bytes) ≤ length out
+    playing-room = omega (arith, few, first-length, p .within, p .runs .puts .answer, playing-size, length-drop (ran .count) bytes)
+
+    pub playing-over : length bytes ≤ ran .count → Runs (sampledAll what n offset bytes ch₀ r₀) (length bytes) at out₀ ran out
     playing-over h =
-        let none = drop-of-length-le bytes h in
-        let same-all : sampledAll what n (offsetAt offset i) (drop i bytes) ch r ≡ record { chain = ch; reader = r; out = [] } =
-        ap (λ rest. sampledAll what n (offsetAt offset i) rest ch r) none in
-        let over = fills-over (subst (λ (y : Sampled). Fills at (sampledAll what n offset bytes ch₀ r₀ .out) out₀ end (y .out) out) same-all (p .fills)) in
+        let all : ran .count ≡ length bytes = omega (arith, p .within) in
+        subst (λ m. Runs (sampledAll what n offset bytes ch₀ r₀) m at out₀ ran out) all
+        (subst (λ bs. Runs (sampledAll what n offset bs ch₀ r₀) (ran .count) at out₀ ran out) (take-all (ran .count) bytes h) (p .runs))
+
+    pub playing-more : offset < 2 ^ 64 → {place : ℕ} → place ≡ offsetAt offset (ran .count) → {next : Ran} {out′ : List ℕ} → next .count ≤ length (drop (ran .count) bytes)
+        → Runs (sampledAll what n place (take (next .count) (drop (ran .count) bytes)) (ran .chain) (ran .reader)) (next .count) (ran .at) out next out′
+        → Playing offset bytes ch₀ r₀ at out₀ (record { chain = next .chain; reader = next .reader; count = ran .count + next .count; at = next .at }) out′
+    playing-more low {place} placed {next} {out′} within more =
+        let both = take-add (ran .count) (next .count) bytes in
+        let then = take (next .count) (drop (ran .count) bytes) in
+        let enough : ran .count + next .count ≤ length bytes = omega (arith, within, length-drop (ran .count) bytes, p .within) in
         record {
-          chain = sym (ap (λ (y : Sampled). y .chain) same-all) ∙ p .chain;
-          reader = sym (ap (λ (y : Sampled). y .reader) same-all) ∙ p .reader;
-          counts = omega (arith, p .within);
-          puts = record { answer = over .0; bytes = over .1 };
+          within = enough;
+          runs =
+              subst (λ bs. Runs (sampledAll what n offset bs ch₀ r₀) (ran .count + next .count) at out₀ (record { chain = next .chain; reader = next .reader; count = ran .count + next .count; at = next .at }) out′)
+              (sym both)
+              (runs-more offset first then ch₀ r₀ low first-length count
+              (omega (arith, ap length (sym both), length-take-le (ran .count + next .count) bytes enough))
+              (p .runs) placed more);
         }
 
-    pub playing-room : i < length bytes → end + sampleRoom ≤ length out
-    playing-room h = omega (arith, p .room, length-drop i bytes)
-
-    -- where the whole fits
-    module _ (count : chipCount n ≡ true) (fits : at + sampleRoom * length bytes ≤ length out₀) (more : i < length bytes) where
-      pub playing-more : {place : ℕ} → place ≡ offsetAt offset i → {ran : Ran} {out′ : List ℕ} → Runs (sampled what n place (getD bytes i 0) ch r) 1 end out ran out′
-          → Playing offset bytes ch₀ r₀ at out₀ (ran .chain) (ran .reader) (ran .at) (i + 1) out′
-      playing-more placed {ran} {out′} made =
-          let ran-so = subst (λ (o : ℕ). Runs (sampled what n o (getD bytes i 0) ch r) 1 end out ran out′) placed made in
-          let x = sampled what n (offsetAt offset i) (getD bytes i 0) ch r in
-          let next = next-sample offset bytes i ch r more in
-          let left : Chain → Reader → Sampled = λ c q. sampledAll what n (offsetAt offset (i + 1)) (drop (i + 1) bytes) c q in
-          let same-all = ap₂ left (ran-so .chain) (ran-so .reader) in
-          let filled =
-          fills-more (x .out) (left (x .chain) (x .reader) .out)
-          (subst (λ (y : Sampled). Fills at (sampledAll what n offset bytes ch₀ r₀ .out) out₀ end (y .out) out) next (p .fills))
-          (omega (arith, sampled-all-few what n count offset bytes ch₀ r₀)) (ran-so .puts .answer) (ran-so .puts .bytes) in
-          record {
-            within = omega arith;
-            chain = ap (λ (y : Sampled). y .chain) same-all ∙ sym (ap (λ (y : Sampled). y .chain) next) ∙ p .chain;
-            reader = ap (λ (y : Sampled). y .reader) same-all ∙ sym (ap (λ (y : Sampled). y .reader) next) ∙ p .reader;
-            fills = subst (λ (y : Sampled). Fills at (sampledAll what n offset bytes ch₀ r₀ .out) out₀ (ran .at) (y .out) out′) (sym same-all) filled;
-            room =
-                omega
-                (arith, p .room, p .fills .size, filled .size, ran-so .puts .answer, sampled-few what n count (offsetAt offset i) (getD bytes i 0) ch r, length-drop i bytes, length-drop (i + 1) bytes);
-          }
+    pub playing-some : offset < 2 ^ 64 → {place : ℕ} → place ≡ offsetAt offset (ran .count) → {next : Ran} {out′ : List ℕ}
+        → RunsSome what n place (take (length bytes - ran .count) (drop (ran .count) bytes)) (ran .chain) (ran .reader) (ran .at) out next out′
+        → Playing offset bytes ch₀ r₀ at out₀ (record { chain = next .chain; reader = next .reader; count = ran .count + next .count; at = next .at }) out′
+    playing-some low {place} placed {next} {out′} made =
+        let some = subst (λ rest. RunsSome what n place rest (ran .chain) (ran .reader) (ran .at) out next out′) (rest-all (ran .count) bytes) made in
+        playing-more low placed (some .within) (some .runs)

@@ -1,5 +1,6 @@
 // What the till read: the last chip's DOUT as a probe recorded it, looked at before each edge of DCLK or LOAD, by the chip's state there. The
 // public functions are inner ones, for the other crates; none of them has a `requires`.
+mod ahead;
 mod looks;
 mod notes;
 
@@ -148,6 +149,39 @@ fn sampled(
     }
 }
 
+// Some samples, those that stand first: as many as can be looked at ahead of the chain, or one.
+fn some(
+    what: Report,
+    n: usize,
+    chain: Chain,
+    reader: Reader,
+    offset: u64,
+    bytes: &[u8],
+    out: &mut [u8],
+    at: usize,
+) -> Ran
+    requires { ⌜ chipCount n ≡ true ⌝ }
+    requires { ⌜ 1 ≤ length (now bytes) ⌝ }
+    requires { ⌜ at + P.sampleRoom * length (now bytes) ≤ length (now out) ⌝ }
+    ensures { λ r. ⌜ P.RunsSome what n offset (now (bytes .entry)) chain reader at (now (out .entry)) r (now (out .exit)) ⌝ }
+{
+    let ahead = ahead::look_ahead(n, chain, reader, offset, bytes, out, at);
+    let count = ahead.count;
+    if count == 0 {
+        return sampled(what, n, chain, reader, offset, bytes[0], out, at);
+    }
+    let seen = ahead.reader;
+    let part = chain::play::to_next_rise(n, chain, &bytes[..count], 0);
+    let mut after = part.chain;
+    after.levels = ahead.levels;
+    Ran {
+        chain: after,
+        reader: seen,
+        count,
+        at: ahead.at,
+    }
+}
+
 // Samples, one after another.
 fn played(
     what: Report,
@@ -169,13 +203,13 @@ fn played(
     let mut i = 0;
     while i < bytes.len() {
         let place = std::num::wrapping_add_u64(offset, i as u64);
-        let ran = sampled(what, n, next, seen, place, bytes[i], out, end);
+        let ran = some(what, n, next, seen, place, &bytes[i..], out, end);
         let after = ran.chain;
         let r = ran.reader;
         next = after;
         seen = r;
         end = ran.at;
-        i += 1;
+        i += ran.count;
     }
     Ran {
         chain: next,
