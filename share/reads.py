@@ -59,7 +59,7 @@ def looked_into(given, files):
             counted.append((section.name, section.account.counts))
     if counted:
         put("\n" + "".join("%s\n" % line for line in totals(counted, failed)))
-    unknown = failed or any(counts["unseen"] for _, counts in counted)
+    unknown = failed or any(counts["unseen"] or counts["astray"] for _, counts in counted)
     return 2 if unknown else int(any(counts["again"] for _, counts in counted))
 
 

@@ -3,6 +3,8 @@
 --     placedItems, writtenBy     items of a raw stream with their offsets, and what they write
 --     NotesWritten               what is written of any reads is each item's note, and then what the item writes without DOUT
 --     CodesRead                  the codes of the lines 16 are those that the chip held at its read words
+--     rawSamples                 the items of a raw stream that has a history's samples alone
+--     ProbeReads                 both, of a probe's recording of any history, as `watch` reads it
 -- Assumes nothing.
 use mathlib.Core.Path.{_≡_}
 use mathlib.Core.Bool.{true, false}
@@ -18,7 +20,7 @@ use Rattle.reads.specs.declared.Reader.{Reader}
 use Rattle.reads.specs.Notes.{noteLine}
 use Rattle.reads.specs.Reads.{lastChip, startReader}
 use Rattle.reads.specs.Till as Till
-use Rattle.reads.specs.Till.{chainAfter, seenAfter, noteOf, notesOf, codesIn, isCut, isDiffers, someNote, runs, heldAtReads, Throughout, Seen, Recorded, LetsEnd, chainAfterAll}
+use Rattle.reads.specs.Till.{chainAfter, seenAfter, noteOf, notesOf, codesTold, isCut, isDiffers, someNote, runs, heldAtReads, Throughout, Seen, HasDout, LetsEnd, chainAfterAll, Played, recordingOf, unscanned, KeysAtLast}
 use Rattle.streams.specs.declared.Stream.{Stream}
 use Rattle.streams.specs.Raw.{Item, sample, scanned}
 use Rattle.streams.specs.Same.{AllGiven, pastBytes, rawOf, rawStream}
@@ -57,8 +59,29 @@ NotesWritten = (what : Report) (s : Stream) → s ≡ startStream → (n : ℕ) 
 abbrev pub CodesRead : Type 0
 CodesRead = (n : ℕ) → chipCount n ≡ true → (gs : List Item) →
     let items = placedItems 3 gs in
-    Throughout n Recorded items startChain startReader → Throughout n (Seen n) items startChain startReader → Throughout n (LetsEnd n) items startChain startReader
+    Throughout n HasDout items startChain startReader → Throughout n (Seen n) items startChain startReader → Throughout n (LetsEnd n) items startChain startReader
     → runs (lastChip n (chainAfterAll n items startChain)) ≡ false
-    → (codesIn (notesOf n items startChain startReader) ≡ heldAtReads n items startChain)
+    → (codesTold (notesOf n items startChain startReader) ≡ heldAtReads n items startChain)
     × (someNote isCut (notesOf n items startChain startReader) ≡ false)
     × (someNote isDiffers (notesOf n items startChain startReader) ≡ false)
+
+-- a history's samples as items of a raw stream; its scans are left out
+unfoldable pub rawSamples : List Till.Item → List Item
+rawSamples [] = []
+rawSamples (Till.sample offset b ∷ items) = sample b ∷ rawSamples items
+rawSamples (Till.scan k bytes ∷ items) = rawSamples items
+
+-- of any history of samples and scans, recorded by a probe: whatever the reads of the raw stream of the recording's samples are, the notes of
+-- those samples are written; and where in the history no chip but the last has KEYB on, and every readout is let end, the codes of the notes are
+-- those held at the read words, each once, in order; no readout is told as cut, and DOUT differs nowhere
+abbrev pub ProbeReads : Type 0
+ProbeReads = (n : ℕ) → chipCount n ≡ true → (history : List Played) →
+    let whole = recordingOf n 3 history startChain in
+    let probed = unscanned whole in
+    ((what : Report) (s : Stream) → s ≡ startStream → (written : List ℕ) → Watches what s (rawStream n (rawSamples probed)) written
+    → written ≡ writtenBy what n probed startChain startReader)
+    × (Throughout n (KeysAtLast n) whole startChain startReader → Throughout n (LetsEnd n) whole startChain startReader
+    → runs (lastChip n (chainAfterAll n whole startChain)) ≡ false
+    → (codesTold (notesOf n probed startChain startReader) ≡ heldAtReads n whole startChain)
+    × (someNote isCut (notesOf n probed startChain startReader) ≡ false)
+    × (someNote isDiffers (notesOf n probed startChain startReader) ≡ false))

@@ -9,6 +9,7 @@ pub mod LookCases
 pub mod ReadBits
 pub mod Tracking
 pub mod Trusted
+pub mod ReadAgain
 pub mod Parted
 pub mod Recordings
 pub mod Unscanned

@@ -13,29 +13,29 @@ use Rattle.chip.specs.Record.{valid}
 use Rattle.chain.specs.declared.Chain.{Chain}
 use Rattle.chain.specs.Chain.{chipCount}
 use Rattle.reads.specs.Reads.{lastChip, startReader}
-use Rattle.reads.specs.Till.{Item, Played, recordingOf, unscanned, notesOf, codesIn, isCut, isDiffers, someNote, runs, heldAtReads, Throughout, KeysAtLast, LetsEnd, chainAfterAll}
+use Rattle.reads.specs.Till.{Item, Played, recordingOf, unscanned, notesOf, codesTold, isCut, isDiffers, someNote, runs, heldAtReads, Throughout, KeysAtLast, LetsEnd, chainAfterAll}
 use Rattle.reads.proofs.Recordings.{recording-seen, recording-recorded}
 use Rattle.reads.proofs.Trusted.{codes-read, no-cut, no-difference}
 use Rattle.reads.proofs.Unscanned.{codes-unseen, notes-unseen}
 
-module _ (n : ℕ) (some : chipCount n ≡ true) (history : List Played) (ch : Chain) (keys : Throughout n (KeysAtLast n) (recordingOf n history ch) ch startReader) where
+module _ (n : ℕ) (some : chipCount n ≡ true) (offset : ℕ) (history : List Played) (ch : Chain) (keys : Throughout n (KeysAtLast n) (recordingOf n offset history ch) ch startReader) where
   abbrev whole : List Item
-  whole = recordingOf n history ch
+  whole = recordingOf n offset history ch
 
   pub probe-codes : T (valid (lastChip n ch)) → runs (lastChip n ch) ≡ false → Throughout n (LetsEnd n) whole ch startReader
       → runs (lastChip n (chainAfterAll n whole ch)) ≡ false
-      → codesIn (notesOf n (unscanned whole) ch startReader) ≡ heldAtReads n whole ch
+      → codesTold (notesOf n (unscanned whole) ch startReader) ≡ heldAtReads n whole ch
   probe-codes v off ends over =
       sym (codes-unseen n whole ch startReader keys)
-      ∙ codes-read n some whole ch v off (recording-recorded n history ch) (recording-seen n history ch) ends over
+      ∙ codes-read n some whole ch v off (recording-recorded n offset history ch) (recording-seen n offset history ch) ends over
 
   pub probe-no-cut : T (valid (lastChip n ch)) → runs (lastChip n ch) ≡ false → Throughout n (LetsEnd n) whole ch startReader
       → someNote isCut (notesOf n (unscanned whole) ch startReader) ≡ false
   probe-no-cut v off ends =
       sym (notes-unseen isCut refl n whole ch startReader keys)
-      ∙ no-cut n some whole ch v off (recording-recorded n history ch) (recording-seen n history ch) ends
+      ∙ no-cut n some whole ch v off (recording-recorded n offset history ch) (recording-seen n offset history ch) ends
 
   pub probe-agrees : someNote isDiffers (notesOf n (unscanned whole) ch startReader) ≡ false
   probe-agrees =
       sym (notes-unseen isDiffers refl n whole ch startReader keys)
-      ∙ no-difference n whole ch startReader refl (recording-seen n history ch)
+      ∙ no-difference n whole ch startReader refl (recording-seen n offset history ch)

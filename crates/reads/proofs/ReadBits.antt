@@ -31,7 +31,7 @@ use Rattle.reads.specs.declared.Note.{Note}
 use Rattle.reads.specs.declared.Note.the-variants.{Nothing}
 use Rattle.reads.specs.declared.Reader.{Reader}
 use Rattle.reads.specs.Reads.{isEdge, looking, tells, bitsWith, inReadout, outside, latchLooked, keypadOff, looked}
-use Rattle.reads.specs.Till.{codesIn, isCut, keypadOn, runs, wasRecorded, SettledIs}
+use Rattle.reads.specs.Till.{codesTold, isCut, keypadOn, runs, wasRecorded, SettledIs}
 use Rattle.reads.proofs.LookCases.{no-fall, no-rise}
 
 -- ---- numbers
@@ -122,13 +122,13 @@ look-readout was now c r k lk =
 
 -- no code, no cut, the same bits
 abbrev pub Idle : Reader → Looked → Type 0
-Idle r l = ((notes : List Note) → codesIn (l .note ∷ notes) ≡ codesIn notes) × (isCut (l .note) ≡ false) × (l .reader .bits ≡ r .bits)
+Idle r l = ((notes : List Note) → codesTold (l .note ∷ notes) ≡ codesTold notes) × (isCut (l .note) ≡ false) × (l .reader .bits ≡ r .bits)
 
 outside-idle : (level : Dout) (r : Reader) → Idle r (outside level r)
 outside-idle NotYet r = ((λ notes. refl), refl, refl)
 outside-idle Missing r = ((λ notes. refl), refl, refl)
 outside-idle Low r = (
-  λ notes. pick-cases (λ note. codesIn (note ∷ notes) ≡ codesIn notes) (r .quiet) (λ e. refl) (λ e. refl),
+  λ notes. pick-cases (λ note. codesTold (note ∷ notes) ≡ codesTold notes) (r .quiet) (λ e. refl) (λ e. refl),
   pick-cases (λ note. isCut note ≡ false) (r .quiet) (λ e. refl) (λ e. refl),
   refl,
 )
@@ -136,7 +136,7 @@ outside-idle High r = ((λ notes. refl), refl, refl)
 
 latch-idle : (same : Bool) (r : Reader) → Idle r (latchLooked same r)
 latch-idle same r = (
-  λ notes. pick-cases (λ note. codesIn (note ∷ notes) ≡ codesIn notes) (r .agrees && not same) (λ e. refl) (λ e. refl),
+  λ notes. pick-cases (λ note. codesTold (note ∷ notes) ≡ codesTold notes) (r .agrees && not same) (λ e. refl) (λ e. refl),
   pick-cases (λ note. isCut note ≡ false) (r .agrees && not same) (λ e. refl) (λ e. refl),
   refl,
 )

@@ -21,8 +21,8 @@ use Rattle.chain.specs.Chain.{steppedChain}
 use Rattle.chain.specs.Entries.{chipAt, withChip}
 use Rattle.chain.proofs.Still.{Alike, still-chips}
 use Rattle.reads.specs.declared.Reader.{Reader}
-use Rattle.reads.specs.Reads.{recordedIn, differ, isEdge, lastChip, startReader, looking, kept, lookAt, readerAfter}
-use Rattle.reads.specs.Till.{chainAfterAll, Throughout, SettledIs, Seen, Recorded, Played, levels, scans, shownByte, recordingOf, playedAfter}
+use Rattle.reads.specs.Reads.{recordedIn, differ, isEdge, lastChip, startReader, looking, kept, lookAt, readerAfter, nextOffset}
+use Rattle.reads.specs.Till.{chainAfterAll, Throughout, SettledIs, Seen, HasDout, Played, levels, scans, shownByte, recordingOf, playedAfter}
 
 -- ---- a sample with DOUT
 
@@ -87,19 +87,19 @@ no-edge was now a =
 -- ---- recordings
 
 -- from any panel and any reader whose level is the last chip's DOUT
-seen-from : (n : ℕ) (history : List Played) (ch : Chain) (r : Reader) → SettledIs (r .dout) (dout (lastChip n ch))
-    → Throughout n (Seen n) (recordingOf n history ch) ch r
+seen-from : (n offset : ℕ) (history : List Played) (ch : Chain) (r : Reader) → SettledIs (r .dout) (dout (lastChip n ch))
+    → Throughout n (Seen n) (recordingOf n offset history ch) ch r
 unfolding recordingOf Throughout
-seen-from n [] ch r q = tt
-seen-from n (levels v ∷ more) ch r q =
+seen-from n offset [] ch r q = tt
+seen-from n offset (levels v ∷ more) ch r q =
     let next = steppedChain n (v % 8) ch in
     let b = shownByte n v next in (
       (λ edge. q),
-      subst (λ x. Throughout n (Seen n) (recordingOf n more next) x (readerAfter n 0 b ch r))
+      subst (λ x. Throughout n (Seen n) (recordingOf n (nextOffset offset) more next) x (readerAfter n offset b ch r))
           (sym (ap (λ s. steppedChain n s ch) (shown-levels n v next)))
-          (seen-from n more next (readerAfter n 0 b ch r) (keeps n v 0 next ch r)),
+          (seen-from n (nextOffset offset) more next (readerAfter n offset b ch r) (keeps n v offset next ch r)),
     )
-seen-from n (scans k bytes ∷ more) ch r q =
+seen-from n offset (scans k bytes ∷ more) ch r q =
     let next = withChip k (scanned bytes (chipAt k ch)) ch in
     let after = steppedChain n (ch .levels % 8) next in
     let b = shownByte n (ch .levels) next in
@@ -108,50 +108,50 @@ seen-from n (scans k bytes ∷ more) ch r q =
       tt,
       (
         (λ edge. absurd (false≢true (sym still ∙ edge))),
-        subst (λ x. Throughout n (Seen n) (recordingOf n more after) x (readerAfter n 0 b next r))
+        subst (λ x. Throughout n (Seen n) (recordingOf n (nextOffset offset) more after) x (readerAfter n offset b next r))
             (sym (ap (λ s. steppedChain n s next) same))
-            (seen-from n more after (readerAfter n 0 b next r)
-            (subst (λ (x : Chain). SettledIs (readerAfter n 0 b next r .dout) (dout (lastChip n x))) (sym (still-chain n next)) (keeps n (ch .levels) 0 next next r))),
+            (seen-from n (nextOffset offset) more after (readerAfter n offset b next r)
+            (subst (λ (x : Chain). SettledIs (readerAfter n offset b next r .dout) (dout (lastChip n x))) (sym (still-chain n next)) (keeps n (ch .levels) offset next next r))),
       ),
     )
 
-pub recording-seen : (n : ℕ) (history : List Played) (ch : Chain) → Throughout n (Seen n) (recordingOf n history ch) ch startReader
-recording-seen n history ch = seen-from n history ch startReader tt
+pub recording-seen : (n offset : ℕ) (history : List Played) (ch : Chain) → Throughout n (Seen n) (recordingOf n offset history ch) ch startReader
+recording-seen n offset history ch = seen-from n offset history ch startReader tt
 
 -- whatever panel is looked at
-recorded-from : (n : ℕ) (history : List Played) (ch other : Chain) (r : Reader) → Throughout n Recorded (recordingOf n history ch) other r
+recorded-from : (n offset : ℕ) (history : List Played) (ch other : Chain) (r : Reader) → Throughout n HasDout (recordingOf n offset history ch) other r
 unfolding recordingOf Throughout
-recorded-from n [] ch other r = tt
-recorded-from n (levels v ∷ more) ch other r =
+recorded-from n offset [] ch other r = tt
+recorded-from n offset (levels v ∷ more) ch other r =
     let next = steppedChain n (v % 8) ch in
     let b = shownByte n v next in
-    (shown-recorded n v next, recorded-from n more next (steppedChain n (b % 8) other) (readerAfter n 0 b other r))
-recorded-from n (scans k bytes ∷ more) ch other r =
+    (shown-recorded n v next, recorded-from n (nextOffset offset) more next (steppedChain n (b % 8) other) (readerAfter n offset b other r))
+recorded-from n offset (scans k bytes ∷ more) ch other r =
     let next = withChip k (scanned bytes (chipAt k ch)) ch in
     let b = shownByte n (ch .levels) next in
     let looked = withChip k (scanned bytes (chipAt k other)) other in (
       tt,
       (
         shown-recorded n (ch .levels) next,
-        recorded-from n more (steppedChain n (ch .levels % 8) next) (steppedChain n (b % 8) looked) (readerAfter n 0 b looked r),
+        recorded-from n (nextOffset offset) more (steppedChain n (ch .levels % 8) next) (steppedChain n (b % 8) looked) (readerAfter n offset b looked r),
       ),
     )
 
-pub recording-recorded : (n : ℕ) (history : List Played) (ch : Chain) → Throughout n Recorded (recordingOf n history ch) ch startReader
-recording-recorded n history ch = recorded-from n history ch ch startReader
+pub recording-recorded : (n offset : ℕ) (history : List Played) (ch : Chain) → Throughout n HasDout (recordingOf n offset history ch) ch startReader
+recording-recorded n offset history ch = recorded-from n offset history ch ch startReader
 
-pub recording-plays : (n : ℕ) (history : List Played) (ch : Chain) → ch .levels < 8
-    → chainAfterAll n (recordingOf n history ch) ch ≡ playedAfter n history ch
+pub recording-plays : (n offset : ℕ) (history : List Played) (ch : Chain) → ch .levels < 8
+    → chainAfterAll n (recordingOf n offset history ch) ch ≡ playedAfter n history ch
 unfolding recordingOf chainAfterAll playedAfter
-recording-plays n [] ch low = refl
-recording-plays n (levels v ∷ more) ch low =
+recording-plays n offset [] ch low = refl
+recording-plays n offset (levels v ∷ more) ch low =
     let next = steppedChain n (v % 8) ch in
-    ap (λ s. chainAfterAll n (recordingOf n more next) (steppedChain n s ch)) (shown-levels n v next)
-    ∙ recording-plays n more next (omega arith)
-recording-plays n (scans k bytes ∷ more) ch low =
+    ap (λ s. chainAfterAll n (recordingOf n (nextOffset offset) more next) (steppedChain n s ch)) (shown-levels n v next)
+    ∙ recording-plays n (nextOffset offset) more next (omega arith)
+recording-plays n offset (scans k bytes ∷ more) ch low =
     let next = withChip k (scanned bytes (chipAt k ch)) ch in
     let after = steppedChain n (ch .levels % 8) next in
     let small : ch .levels % 8 ≡ ch .levels = omega arith in
-    ap (λ s. chainAfterAll n (recordingOf n more after) (steppedChain n s next)) (shown-levels n (ch .levels) next)
-    ∙ ap (λ (x : Chain). chainAfterAll n (recordingOf n more x) x) (still-chain n next ∙ ap (λ m. record { chips = next .chips; levels = m }) small)
-    ∙ recording-plays n more next low
+    ap (λ s. chainAfterAll n (recordingOf n (nextOffset offset) more after) (steppedChain n s next)) (shown-levels n (ch .levels) next)
+    ∙ ap (λ (x : Chain). chainAfterAll n (recordingOf n (nextOffset offset) more x) x) (still-chain n next ∙ ap (λ m. record { chips = next .chips; levels = m }) small)
+    ∙ recording-plays n (nextOffset offset) more next low

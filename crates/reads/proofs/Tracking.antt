@@ -33,7 +33,7 @@ use Rattle.reads.specs.declared.Note.{Note}
 use Rattle.reads.specs.declared.Note.the-variants.{Nothing, Code}
 use Rattle.reads.specs.declared.Reader.{Reader}
 use Rattle.reads.specs.Reads.{isEdge, looking, bitsWith, fallTells, inReadout, begun, looked, kept}
-use Rattle.reads.specs.Till.{codesIn, isCut, isReadKey, keypadOn, runs, leftAt, wasRecorded, SettledIs}
+use Rattle.reads.specs.Till.{codesTold, isCut, isReadKey, keypadOn, runs, leftAt, wasRecorded, SettledIs}
 use Rattle.reads.proofs.LookCases.{fall-edge, look-dout}
 use Rattle.reads.proofs.Kept.{kept-known, kept-looking, kept-first, begins-runs}
 use Rattle.reads.proofs.LastChip.{Moved, Untouched}
@@ -211,8 +211,8 @@ module _ (was b offset : ℕ) (c x : Chip) (r : Reader) (m : Moved was (b % 8) c
       (λ e. pick-no _ _ (over e) ∙ sym (no-word e))
 
   -- none runs before the sample
-  idle-codes : runs c ≡ false → (notes : List Note) (held : List ℕ) → codesIn notes ≡ pending x ++ held
-      → codesIn (look .note ∷ notes) ≡ pending c ++ (heldHere ++ held)
+  idle-codes : runs c ≡ false → (notes : List Note) (held : List ℕ) → codesTold notes ≡ pending x ++ held
+      → codesTold (look .note ∷ notes) ≡ pending c ++ (heldHere ++ held)
   idle-codes off notes held h =
       look-idle was (b % 8) c r off .0 notes
       ∙ h
@@ -271,25 +271,25 @@ module _ (was b offset : ℕ) (c x : Chip) (r : Reader) (m : Moved was (b % 8) c
       (λ f. ap₂ (λ t u. inReadout t u left r .note) f quiet)
 
   -- one runs before the sample
-  running-codes : runs c ≡ true → (notes : List Note) (held : List ℕ) → codesIn notes ≡ pending x ++ held
-      → codesIn (look .note ∷ notes) ≡ pending c ++ (heldHere ++ held)
+  running-codes : runs c ≡ true → (notes : List Note) (held : List ℕ) → codesTold notes ≡ pending x ++ held
+      → codesTold (look .note ∷ notes) ≡ pending c ++ (heldHere ++ held)
   running-codes on notes held h =
       by-test (eqb after 0)
       (λ z.
-      ap (λ note. codesIn (note ∷ notes)) (code-told on z)
+      ap (λ note. codesTold (note ∷ notes)) (code-told on z)
       ∙ ap (λ t. code ∷ t)
       (h ∙ ap (λ t. t ++ held) (only-begun (λ e. runs-on e ∙ ap (λ t. keypadOn c && not t) z ∙ and-false (keypadOn c))))
       ∙ sym (ap (λ t. t ++ (heldHere ++ held)) (pick-yes _ _ on)))
       (λ more.
       let e = no-cut-rise on more in
       let still : runs x ≡ true = runs-on e ∙ ap₂ (λ s t. s && not t) (running c (k .sound) on .on) more in
-      ap (λ note. codesIn (note ∷ notes)) (nothing-told on more)
+      ap (λ note. codesTold (note ∷ notes)) (nothing-told on more)
       ∙ h
       ∙ ap (λ t. t ++ held) (pick-yes _ _ still ∙ ap (λ (t : Readout). t .code ∷ []) (m .moves e) ∙ sym (pick-yes _ _ on))
       ∙ sym (ap (λ t. pending c ++ (t ++ held)) (no-word e)))
 
-  pub tells-codes : (notes : List Note) (held : List ℕ) → codesIn notes ≡ pending x ++ held
-      → codesIn (look .note ∷ notes) ≡ pending c ++ (heldHere ++ held)
+  pub tells-codes : (notes : List Note) (held : List ℕ) → codesTold notes ≡ pending x ++ held
+      → codesTold (look .note ∷ notes) ≡ pending c ++ (heldHere ++ held)
   tells-codes notes held h = by-test (runs c) (λ on. running-codes on notes held h) (λ off. idle-codes off notes held h)
 
   pub tells-no-cut : isCut (look .note) ≡ false

@@ -2,9 +2,9 @@
 --     codes-read          the codes of the lines 16 are those that the last chip held at its read words, in order, each once
 --     no-cut              no line 17 is written
 --     no-difference       no line 15 is written
---     interrupt-seen      a line 18 is written exactly where an interrupt stands at some edge outside readouts
+--     interrupt-seen      a line 18 is written if and only if an interrupt stands at some edge outside readouts
 --     quiet-after-read    after a read word DOUT counts as high
---     seen-between        so after a read word a line 18 is written exactly where an interrupt stands at some later edge
+--     seen-between        so after a read word a line 18 is written if and only if an interrupt stands at some later edge outside readouts
 -- Assumes nothing.
 use mathlib.Core.Path.{_≡_, refl, ap, ap₂, sym, _∙_}
 use mathlib.Core.Bool.{Bool, true, false, _&&_, _||_, false≢true, and-eq-true-iff}
@@ -22,7 +22,7 @@ use Rattle.chain.specs.Chain.{chipCount, steppedChain}
 use Rattle.reads.specs.declared.Looked.{Looked}
 use Rattle.reads.specs.declared.Reader.{Reader}
 use Rattle.reads.specs.Reads.{lastChip, startReader, looking, lookAt, begun, readerAfter}
-use Rattle.reads.specs.Till.{Item, sample, scan, chainAfter, seenAfter, notesOf, codesIn, isCut, isInterrupt, isDiffers, someNote, isReadKey, keypadOn, runs, readWord, heldAtReads, interruptAt, someInterrupt, Throughout, wasRecorded, Seen, Recorded, LetsEnd, chainAfterAll, seenAfterAll}
+use Rattle.reads.specs.Till.{Item, sample, scan, chainAfter, seenAfter, notesOf, codesTold, isCut, isInterrupt, isDiffers, someNote, isReadKey, keypadOn, runs, readWord, heldAtReads, interruptAt, someInterrupt, Throughout, wasRecorded, Seen, HasDout, LetsEnd, chainAfterAll, seenAfterAll}
 use Rattle.reads.proofs.LookCases.{look-dout, look-agrees, look-interrupt}
 use Rattle.reads.proofs.Kept.{kept-agrees, kept-quiet, kept-known, kept-looking, kept-looks, begins-runs}
 use Rattle.reads.proofs.LastChip.{last-moved, last-untouched}
@@ -37,9 +37,9 @@ start-tracks c v off = record { sound = v; bits = λ on. absurd (false≢true (s
 
 -- from any reader that keeps track: the code that is being read comes first
 codes-from : (n : ℕ) → chipCount n ≡ true → (items : List Item) (ch : Chain) (r : Reader) → Tracks (lastChip n ch) r
-    → Throughout n Recorded items ch r → Throughout n (Seen n) items ch r → Throughout n (LetsEnd n) items ch r
+    → Throughout n HasDout items ch r → Throughout n (Seen n) items ch r → Throughout n (LetsEnd n) items ch r
     → runs (lastChip n (chainAfterAll n items ch)) ≡ false
-    → codesIn (notesOf n items ch r) ≡ pending (lastChip n ch) ++ heldAtReads n items ch
+    → codesTold (notesOf n items ch r) ≡ pending (lastChip n ch) ++ heldAtReads n items ch
 unfolding notesOf heldAtReads readWord Throughout chainAfterAll
 codes-from n some [] ch r k all seen ends over = sym (ap (λ t. t ++ []) (pick-no _ _ over))
 codes-from n some (sample offset b ∷ items) ch r k all seen ends over =
@@ -57,15 +57,15 @@ codes-from n some (scan j bytes ∷ items) ch r k all seen ends over =
     ∙ ap (λ t. t ++ heldAtReads n items next) (pending-same (lastChip n ch) (lastChip n next) u)
 
 pub codes-read : (n : ℕ) → chipCount n ≡ true → (items : List Item) (ch : Chain) → T (valid (lastChip n ch)) → runs (lastChip n ch) ≡ false
-    → Throughout n Recorded items ch startReader → Throughout n (Seen n) items ch startReader → Throughout n (LetsEnd n) items ch startReader
+    → Throughout n HasDout items ch startReader → Throughout n (Seen n) items ch startReader → Throughout n (LetsEnd n) items ch startReader
     → runs (lastChip n (chainAfterAll n items ch)) ≡ false
-    → codesIn (notesOf n items ch startReader) ≡ heldAtReads n items ch
+    → codesTold (notesOf n items ch startReader) ≡ heldAtReads n items ch
 codes-read n some items ch v off all seen ends over =
     codes-from n some items ch startReader (start-tracks (lastChip n ch) v off) all seen ends over
     ∙ ap (λ t. t ++ heldAtReads n items ch) (pick-no _ _ off)
 
 cut-from : (n : ℕ) → chipCount n ≡ true → (items : List Item) (ch : Chain) (r : Reader) → Tracks (lastChip n ch) r
-    → Throughout n Recorded items ch r → Throughout n (Seen n) items ch r → Throughout n (LetsEnd n) items ch r
+    → Throughout n HasDout items ch r → Throughout n (Seen n) items ch r → Throughout n (LetsEnd n) items ch r
     → someNote isCut (notesOf n items ch r) ≡ false
 unfolding notesOf Throughout
 cut-from n some [] ch r k all seen ends = refl
@@ -81,7 +81,7 @@ cut-from n some (scan j bytes ∷ items) ch r k all seen ends =
     cut-from n some items next r (tracks-same (lastChip n ch) (lastChip n next) (last-untouched n j bytes ch) r k) (all .1) (seen .1) (ends .1)
 
 pub no-cut : (n : ℕ) → chipCount n ≡ true → (items : List Item) (ch : Chain) → T (valid (lastChip n ch)) → runs (lastChip n ch) ≡ false
-    → Throughout n Recorded items ch startReader → Throughout n (Seen n) items ch startReader → Throughout n (LetsEnd n) items ch startReader
+    → Throughout n HasDout items ch startReader → Throughout n (Seen n) items ch startReader → Throughout n (LetsEnd n) items ch startReader
     → someNote isCut (notesOf n items ch startReader) ≡ false
 no-cut n some items ch v off all seen ends = cut-from n some items ch startReader (start-tracks (lastChip n ch) v off) all seen ends
 
@@ -107,7 +107,7 @@ first-or true told {rest = rest} e f = ap (λ t. t || rest) e
 first-or false told e f = ap₂ _||_ e (f refl)
 
 pub interrupt-seen : (n : ℕ) (items : List Item) (ch : Chain) (r : Reader) → wasRecorded (r .dout) ≡ true → r .quiet ≡ true
-    → Throughout n Recorded items ch r → Throughout n (Seen n) items ch r
+    → Throughout n HasDout items ch r → Throughout n (Seen n) items ch r
     → someNote isInterrupt (notesOf n items ch r) ≡ someInterrupt n items ch
 unfolding notesOf someInterrupt Throughout
 interrupt-seen n [] ch r known q all seen = refl
@@ -174,7 +174,7 @@ module _ (n : ℕ) (some : chipCount n ≡ true) (before : List Item) (offset b 
   abbrev read : Item
   read = sample offset b
 
-  pub seen-between : readWord n b panel ≡ true → Throughout n Recorded (read ∷ items) panel reader → Throughout n (Seen n) (read ∷ items) panel reader
+  pub seen-between : readWord n b panel ≡ true → Throughout n HasDout (read ∷ items) panel reader → Throughout n (Seen n) (read ∷ items) panel reader
       → someNote isInterrupt (notesOf n items (chainAfter n read panel) (seenAfter n read panel reader)) ≡ someInterrupt n items (chainAfter n read panel)
   unfolding Throughout
   seen-between word all seen =

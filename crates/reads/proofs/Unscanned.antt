@@ -17,7 +17,7 @@ use Rattle.reads.specs.declared.Note.the-variants.{Nothing, Code, Cut, I
 use Rattle.reads.specs.declared.Looked.{Looked}
 use Rattle.reads.specs.declared.Reader.{Reader}
 use Rattle.reads.specs.Reads.{looked, kept, lastChip, lookAt, readerAfter}
-use Rattle.reads.specs.Till.{Item, sample, scan, chainAfter, seenAfter, notesOf, codesIn, someNote, Throughout, unscanned, samplesNotes, KeysAtLast}
+use Rattle.reads.specs.Till.{Item, sample, scan, chainAfter, seenAfter, notesOf, codesTold, someNote, Throughout, unscanned, samplesNotes, KeysAtLast}
 use Rattle.reads.proofs.Parted.{by-part, keypad-part, Same, same-step, same-scan, last-part}
 
 -- ---- a sample of two chains with the same levels and parts
@@ -61,7 +61,7 @@ scans-unseen n items ch r = from-same n items ch ch r r (record { levels = refl;
 -- ---- what the notes say
 
 -- one more note
-codes-more : (note : Note) (xs ys : List Note) → codesIn xs ≡ codesIn ys → codesIn (note ∷ xs) ≡ codesIn (note ∷ ys)
+codes-more : (note : Note) (xs ys : List Note) → codesTold xs ≡ codesTold ys → codesTold (note ∷ xs) ≡ codesTold (note ∷ ys)
 codes-more Nothing xs ys e = e
 codes-more (Code code) xs ys e = ap (λ cs. code ∷ cs) e
 codes-more Cut xs ys e = e
@@ -69,7 +69,7 @@ codes-more Interrupt xs ys e = e
 codes-more (Differs offset) xs ys e = e
 
 -- a scan's note has no code
-codes-samples : (n : ℕ) (items : List Item) (ch : Chain) (r : Reader) → codesIn (notesOf n items ch r) ≡ codesIn (samplesNotes n items ch r)
+codes-samples : (n : ℕ) (items : List Item) (ch : Chain) (r : Reader) → codesTold (notesOf n items ch r) ≡ codesTold (samplesNotes n items ch r)
 unfolding samplesNotes notesOf
 codes-samples n [] ch r = refl
 codes-samples n (sample offset b ∷ items) ch r =
@@ -79,8 +79,8 @@ codes-samples n (sample offset b ∷ items) ch r =
 codes-samples n (scan k bytes ∷ items) ch r = codes-samples n items (chainAfter n (scan k bytes) ch) r
 
 pub codes-unseen : (n : ℕ) (items : List Item) (ch : Chain) (r : Reader) → Throughout n (KeysAtLast n) items ch r
-    → codesIn (notesOf n items ch r) ≡ codesIn (notesOf n (unscanned items) ch r)
-codes-unseen n items ch r k = codes-samples n items ch r ∙ ap codesIn (scans-unseen n items ch r k)
+    → codesTold (notesOf n items ch r) ≡ codesTold (notesOf n (unscanned items) ch r)
+codes-unseen n items ch r k = codes-samples n items ch r ∙ ap codesTold (scans-unseen n items ch r k)
 
 -- nor is it such a one
 some-samples : (is : Note → Bool) → is Nothing ≡ false → (n : ℕ) (items : List Item) (ch : Chain) (r : Reader)

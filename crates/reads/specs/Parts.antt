@@ -55,8 +55,8 @@ pub record RunsSome (what : Report) (n offset : ℕ) (bytes : List ℕ) (ch : Ch
 abbrev pub knownAfter : Bool → Bool → ℕ → ℕ
 knownAfter keyb rises known = pick keyb known (pick rises (known - 1) known)
 
--- the samples that stand first were looked at ahead of the chain: LOAD rises in none of them, and with the chain played over them they are
--- played. Played by their bytes, the chain differs in the levels alone
+-- the samples that stand first were looked at ahead of the chain: LOAD rises in none of them; the chain after them is that of their bytes
+-- played as they stand, but for the levels, which are the last sample's
 pub record Looks (n offset : ℕ) (bytes : List ℕ) (ch : Chain) (reader : Reader) (at : ℕ) (out : List ℕ) (a : Ahead) (out′ : List ℕ) : Type 0 where
   pub within : a .count ≤ length bytes
   pub chain : Chain

@@ -24,7 +24,7 @@ use Rattle.reads.specs.declared.Dout.the-variants.{NotYet, Missing, Low,
 use Rattle.reads.specs.declared.Note.{Note}
 use Rattle.reads.specs.declared.Note.the-variants.{Nothing, Code, Cut, Interrupt, Differs}
 use Rattle.reads.specs.declared.Reader.{Reader}
-use Rattle.reads.specs.Reads.{isEdge, lastChip, lookAt, readerAfter}
+use Rattle.reads.specs.Reads.{isEdge, lastChip, lookAt, readerAfter, nextOffset}
 
 -- ---- histories
 
@@ -56,13 +56,13 @@ notesOf n (x ∷ items) ch r = noteOf n x ch r ∷ notesOf n items (chainAfter n
 -- ---- what the notes say
 
 -- the codes that were read, in order: those of the lines 16
-abbrev pub codesIn : List Note → List ℕ
-codesIn [] = []
-codesIn (Nothing ∷ notes) = codesIn notes
-codesIn (Code code ∷ notes) = code ∷ codesIn notes
-codesIn (Cut ∷ notes) = codesIn notes
-codesIn (Interrupt ∷ notes) = codesIn notes
-codesIn (Differs offset ∷ notes) = codesIn notes
+abbrev pub codesTold : List Note → List ℕ
+codesTold [] = []
+codesTold (Nothing ∷ notes) = codesTold notes
+codesTold (Code code ∷ notes) = code ∷ codesTold notes
+codesTold (Cut ∷ notes) = codesTold notes
+codesTold (Interrupt ∷ notes) = codesTold notes
+codesTold (Differs offset ∷ notes) = codesTold notes
 
 -- a line 17, 18 or 15
 abbrev pub isCut : Note → Bool
@@ -174,14 +174,15 @@ Seen n (sample offset b) ch r = isEdge (ch .levels) (b % 8) ≡ true → Settled
 Seen n (scan k bytes) ch r = Unit {0}
 
 -- each sample has a recorded DOUT
-abbrev pub Recorded : Item → Chain → Reader → Type 0
-Recorded (sample offset b) ch r = b / 16 ≡ 1
-Recorded (scan k bytes) ch r = Unit {0}
+abbrev pub HasDout : Item → Chain → Reader → Type 0
+HasDout (sample offset b) ch r = b / 16 ≡ 1
+HasDout (scan k bytes) ch r = Unit {0}
 
--- the clocking lets a readout end: no LOAD rise comes while bits are left after the sample's fall of DCLK, if it has one
+-- the bits left after the sample's fall of DCLK, if it has one
 abbrev pub leftAt : ℕ → ℕ → Chip → ℕ
 leftAt was now c = pick (dclkFalls was now) (c .line .readout .left - 1) (c .line .readout .left)
 
+-- the clocking lets a readout end: no LOAD rise comes while bits are left
 abbrev pub LetsEnd : ℕ → Item → Chain → Reader → Type 0
 LetsEnd n (sample offset b) ch r =
     (loadRises (ch .levels) (b % 8) && keypadOn (lastChip n ch) && not (eqb (leftAt (ch .levels) (b % 8) (lastChip n ch)) 0)) ≡ false
@@ -208,15 +209,15 @@ abbrev pub shownByte : ℕ → ℕ → Chain → ℕ
 shownByte n v ch = 0x10 + 8 * bitValue (dout (lastChip n ch)) + v % 8
 
 -- recorded: each sample with the DOUT that the host sees after it, and after each scan a sample with the levels as they are, since a sample at
--- which DOUT changes is kept too. The offsets don't matter; here they are 0
-unfoldable pub recordingOf : ℕ → List Played → Chain → List Item
-recordingOf n [] ch = []
-recordingOf n (levels v ∷ more) ch =
+-- which DOUT changes is kept too. The samples have consecutive offsets, as in a raw stream without scans
+unfoldable pub recordingOf : ℕ → ℕ → List Played → Chain → List Item
+recordingOf n offset [] ch = []
+recordingOf n offset (levels v ∷ more) ch =
     let next = steppedChain n (v % 8) ch in
-    sample 0 (shownByte n v next) ∷ recordingOf n more next
-recordingOf n (scans k bytes ∷ more) ch =
+    sample offset (shownByte n v next) ∷ recordingOf n (nextOffset offset) more next
+recordingOf n offset (scans k bytes ∷ more) ch =
     let next = withChip k (scanned bytes (chipAt k ch)) ch in
-    scan k bytes ∷ sample 0 (shownByte n (ch .levels) next) ∷ recordingOf n more (steppedChain n (ch .levels % 8) next)
+    scan k bytes ∷ sample offset (shownByte n (ch .levels) next) ∷ recordingOf n (nextOffset offset) more (steppedChain n (ch .levels % 8) next)
 
 -- the panel after a history, played as it is
 unfoldable pub playedAfter : ℕ → List Played → Chain → Chain
