@@ -57,15 +57,19 @@ looking Missing = true
 looking Low = true
 looking High = true
 
+-- a reader with other bits of a readout
 abbrev pub withBits : ℕ → Reader → Reader
 withBits bits r = record { dout = r .dout; offset = r .offset; bits = bits; quiet = r .quiet; agrees = r .agrees }
 
+-- one for which DOUT was high, or wasn't, when last looked at outside readouts
 abbrev pub withQuiet : Bool → Reader → Reader
 withQuiet quiet r = record { dout = r .dout; offset = r .offset; bits = r .bits; quiet = quiet; agrees = r .agrees }
 
+-- one for which DOUT was the latch, or wasn't, when last looked at with KEYB off
 abbrev pub withAgrees : Bool → Reader → Reader
 withAgrees agrees r = record { dout = r .dout; offset = r .offset; bits = r .bits; quiet = r .quiet; agrees = agrees }
 
+-- one with another last sample: its recorded DOUT and its offset
 abbrev pub withSample : Dout → ℕ → Reader → Reader
 withSample level offset r = record { dout = level; offset = offset; bits = r .bits; quiet = r .quiet; agrees = r .agrees }
 
@@ -75,7 +79,7 @@ tells r note = record { reader = r; note = note }
 
 -- ---- a readout runs
 
--- a readout's bits, K6 first, and the settled level; none where the readout was told as cut, or where the level wasn't recorded
+-- a readout's bits behind a leading 1, K6 first, with the settled level; 0 where it was told as cut, or the level wasn't recorded
 abbrev pub bitsWith : Dout → ℕ → ℕ
 bitsWith NotYet bits = 0
 bitsWith Missing bits = 0
@@ -92,6 +96,7 @@ fallTells rises left before bits =
     pick (eqb bits 0) (pick (eqb before 0) Nothing Cut)
     (pick (eqb left 1) (pick (ltb bits 128) Cut (Code (bits % 128))) (cutBy rises bits))
 
+-- where DCLK falls, the settled level is the next bit; anywhere else only a LOAD rise tells something
 abbrev pub inReadout : Bool → Bool → ℕ → Reader → Looked
 inReadout falls rises left r =
     let bits = bitsWith (r .dout) (r .bits) in

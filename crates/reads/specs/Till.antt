@@ -64,7 +64,7 @@ codesTold (Cut ∷ notes) = codesTold notes
 codesTold (Interrupt ∷ notes) = codesTold notes
 codesTold (Differs offset ∷ notes) = codesTold notes
 
--- a line 17, 18 or 15
+-- a line 17
 abbrev pub isCut : Note → Bool
 isCut Nothing = false
 isCut (Code code) = false
@@ -72,6 +72,7 @@ isCut Cut = true
 isCut Interrupt = false
 isCut (Differs offset) = false
 
+-- a line 18
 abbrev pub isInterrupt : Note → Bool
 isInterrupt Nothing = false
 isInterrupt (Code code) = false
@@ -79,6 +80,7 @@ isInterrupt Cut = false
 isInterrupt Interrupt = true
 isInterrupt (Differs offset) = false
 
+-- a line 15
 abbrev pub isDiffers : Note → Bool
 isDiffers Nothing = false
 isDiffers (Code code) = false
@@ -127,11 +129,12 @@ unfoldable pub readWord : ℕ → ℕ → Chain → Bool
 readWord n b ch =
     loadRises (ch .levels) (b % 8) && keypadOn (lastChip n ch) && isReadKey (decodedOf (lastChip n (steppedChain n (b % 8) ch) .line .register))
 
--- the codes that the chip held at its read words, in order
+-- the code that the chip held, where an item is a read word
 abbrev pub heldAt : ℕ → Item → Chain → List ℕ
 heldAt n (sample offset b) ch = pick (readWord n b ch) (lastChip n ch .keys .code ∷ []) []
 heldAt n (scan k bytes) ch = []
 
+-- the codes that it held at its read words, in order
 unfoldable pub heldAtReads : ℕ → List Item → Chain → List ℕ
 heldAtReads n [] ch = []
 heldAtReads n (x ∷ items) ch = heldAt n x ch ++ heldAtReads n items (chainAfter n x ch)
@@ -188,11 +191,12 @@ LetsEnd n (sample offset b) ch r =
     (loadRises (ch .levels) (b % 8) && keypadOn (lastChip n ch) && not (eqb (leftAt (ch .levels) (b % 8) (lastChip n ch)) 0)) ≡ false
 LetsEnd n (scan k bytes) ch r = Unit {0}
 
--- the panel after a history
+-- the chain after a history
 unfoldable pub chainAfterAll : ℕ → List Item → Chain → Chain
 chainAfterAll n [] ch = ch
 chainAfterAll n (x ∷ items) ch = chainAfterAll n items (chainAfter n x ch)
 
+-- the reader after a history
 unfoldable pub seenAfterAll : ℕ → List Item → Chain → Reader → Reader
 seenAfterAll n [] ch r = r
 seenAfterAll n (x ∷ items) ch r = seenAfterAll n items (chainAfter n x ch) (seenAfter n x ch r)
