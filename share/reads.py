@@ -6,7 +6,8 @@ the lines 15 to 18 of the program `watch` say.
 
 A file is a recording with the last chip's DOUT, a raw stream with it, or what `watch` wrote of one; recordings and streams are fed to
 the plain command, `zhaqsumir watch -`. Exit status 0; 1 where a code was read again without a new interrupt; 2 for bad usage, and where
-what the till got isn't known: a file that can't be read to its end or has no DOUT, or a till that was running.
+what the till got isn't known: a file that can't be read to its end or has no DOUT, a DOUT that isn't the latch later than at the start, or a
+till that was running.
 """
 import os
 import signal
