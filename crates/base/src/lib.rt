@@ -5,7 +5,7 @@ ghost use Rattle.base.specs.Bits.{cut, bit_value};
 ghost use Rattle.base.specs.Refusals.{number_of, place_of};
 
 // Why an input was refused, with the place that document 01 names, where it names one.
-#[derive(Drop)]
+#[derive(Clone, Copy)]
 pub enum Refusal {
     // 1: a sample is above 7, of two wires above 3; the lowest such place.
     Sample(u64),
@@ -45,7 +45,7 @@ pub enum Refusal {
 }
 
 // What an entry says that hands a value back: it did what was asked, or it refused and changed nothing.
-#[derive(Drop)]
+#[derive(Clone, Copy)]
 pub enum Verdict {
     Done,
     Refused(Refusal),

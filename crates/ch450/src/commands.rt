@@ -7,13 +7,13 @@ use crate::{Command, Panel, Settings};
 use base::Refusal;
 
 // What two bytes mean; nothing, where byte 1 is unknown.
-#[derive(Drop)]
+#[derive(Clone, Copy)]
 pub enum Meaning {
     Means(Command),
     Nothing,
 }
 
-#[derive(Drop)]
+#[derive(Clone, Copy)]
 pub enum Encoded {
     Word(u16),
     Refused(Refusal),

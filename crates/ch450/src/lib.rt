@@ -15,7 +15,7 @@ ghost use Rattle.ch450.specs.Panel as P;
 
 // The two wires: the levels last seen, whether a transfer runs, the SCL rises since its start, up to 20, and the bits taken at
 // them, the last 19.
-#[derive(Drop)]
+#[derive(Clone, Copy)]
 pub struct Wires {
     pub levels: u8,
     pub running: bool,
@@ -24,7 +24,7 @@ pub struct Wires {
 }
 
 // The system parameters: SLEEP, INTENS, KEYB, DISP.
-#[derive(Drop)]
+#[derive(Clone, Copy)]
 pub struct Settings {
     pub sleep: bool,
     pub intens: u8,
@@ -33,7 +33,7 @@ pub struct Settings {
 }
 
 // The display is the digits: the data bytes of DIG2 to DIG7.
-#[derive(Drop)]
+#[derive(Clone, Copy)]
 pub struct Panel {
     pub wires: Wires,
     pub settings: Settings,
@@ -41,7 +41,7 @@ pub struct Panel {
 }
 
 // What two bytes tell the chip to do.
-#[derive(Drop)]
+#[derive(Clone, Copy)]
 pub enum Command {
     // Byte 1 is 48H: the system parameters.
     Parameters(Settings),
@@ -52,14 +52,14 @@ pub enum Command {
 }
 
 // A panel handed back, and whether it was refused.
-#[derive(Drop)]
+#[derive(Clone, Copy)]
 pub struct HandedPanel {
     pub panel: Panel,
     pub answer: Verdict,
 }
 
 // The segments lit of DIG2 to DIG7, zeros where refused.
-#[derive(Drop)]
+#[derive(Clone, Copy)]
 pub struct Lit {
     pub segments: [u8; 6],
     pub answer: Verdict,

@@ -10,7 +10,7 @@ use crate::{Panel, commands, edges};
 use base::{Refusal, Verdict};
 
 // The bytes of a transfer that a stop completed.
-#[derive(Drop)]
+#[derive(Clone, Copy)]
 pub enum Transfer {
     Bytes { first: u8, second: u8 },
     Nothing,
@@ -18,7 +18,7 @@ pub enum Transfer {
 
 // Samples played up to and with a stop that completes a transfer: the panel after them, the place past the last of them, and the
 // transfer's bytes.
-#[derive(Drop)]
+#[derive(Clone, Copy)]
 pub struct Stretch {
     pub panel: Panel,
     pub stop: usize,
@@ -26,41 +26,41 @@ pub struct Stretch {
 }
 
 // What a sample answers: the key's code, where the key is read.
-#[derive(Drop)]
+#[derive(Clone, Copy)]
 pub enum Reading {
     Nothing,
     Code(u8),
 }
 
-#[derive(Drop)]
+#[derive(Clone, Copy)]
 pub enum SampleAnswer {
     Took(Reading),
     Refused(Refusal),
 }
 
 // A panel after a sample, and what it answered.
-#[derive(Drop)]
+#[derive(Clone, Copy)]
 pub struct Sampled {
     pub panel: Panel,
     pub answer: SampleAnswer,
 }
 
 // How many times the key was read.
-#[derive(Drop)]
+#[derive(Clone, Copy)]
 pub enum PlayAnswer {
     Reads(usize),
     Refused(Refusal),
 }
 
 // A panel after a block of samples, and what it answered.
-#[derive(Drop)]
+#[derive(Clone, Copy)]
 pub struct Played {
     pub panel: Panel,
     pub answer: PlayAnswer,
 }
 
 // All samples played, and how many times the key was read.
-#[derive(Drop)]
+#[derive(Clone, Copy)]
 pub(crate) struct Run {
     pub(crate) panel: Panel,
     pub(crate) reads: usize,

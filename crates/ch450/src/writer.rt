@@ -8,7 +8,7 @@ use crate::commands;
 use base::{Refusal, Verdict};
 
 // How many samples were written, or why none were.
-#[derive(Drop)]
+#[derive(Clone, Copy)]
 pub enum Written {
     Samples(usize),
     Refused(Refusal),

@@ -11,7 +11,7 @@ use mathlib.Core.Bool.{Bool, true, false, not, ◌&&◌, ◌||◌}
 use Prim.Native.Nat.{ℕ, ◌+◌, ◌*◌, ◌/◌, ◌^◌, ◌<◌}
 use native.Mathlib.Omega.{arith}
 use lib.Dec.{T, eqb, ltb, ltb→lt, lit<}
-use borrow.Author.Tests.{ne_eqb, not_true}
+use borrow.Author.Tests.{ne_eqb, not-true}
 use lib.Bits.{bit_or}
 use lib.Count.{count_trailing_zeros}
 use Rattle.base.specs.Bits.{bit, byte_of}
@@ -110,5 +110,5 @@ lowest_set mask h some =
     let two = and_left (ltb place 8 && bit mask place) (below (λ j. not (bit mask j)) place) all in (
       ltb→lt place 8 (and_left (ltb place 8) (bit mask place) two),
       is_true (bit mask place) (and_right (ltb place 8) (bit mask place) two),
-      λ j l. not_true (bit mask j) (is_true (not (bit mask j)) (at_below (λ m. not (bit mask m)) place (and_right (ltb place 8 && bit mask place) (below (λ m. not (bit mask m)) place) all) j l)),
+      λ j l. not-true (bit mask j) (is_true (not (bit mask j)) (at_below (λ m. not (bit mask m)) place (and_right (ltb place 8 && bit mask place) (below (λ m. not (bit mask m)) place) all) j l)),
     )

@@ -16,11 +16,11 @@
 --     released_twice      two empty scans after an address release the key
 -- Assumes nothing.
 use mathlib.Core.Path.{◌≡◌, refl, ap, sym, ◌∙◌}
-use mathlib.Core.Bool.{Bool, true, false, not, ◌&&◌, false≢true, and_false, and-eq-true_iff}
+use mathlib.Core.Bool.{Bool, true, false, not, ◌&&◌, false≢true, and-false, and-eq-true_iff}
 use Prim.Native.Nat.{ℕ, ◌<◌}
 use native.Mathlib.Omega.{arith}
 use lib.Dec.{eqb}
-use borrow.Author.Tests.{eq-eqb, ne_eqb, eqb-true, eqb-false, not_true}
+use borrow.Author.Tests.{eq-eqb, ne_eqb, eqb-true, eqb-false, not-true}
 use Rattle.base.specs.Bits.{bit}
 use Rattle.base.specs.Pick.{pick}
 use Rattle.base.proofs.Picks.{pick_yes, pick_no, pick_cases}
@@ -59,7 +59,7 @@ pub new_key_lem : (r : ℕ) (k : Keys) → new_key r k ≡ true → (r ≡ k.las
 new_key_lem r k e =
     let p = (and-eq-true_iff (eqb r k.last && not (eqb r none)) (not (eqb k.code (code_of r)))).0 e in
     let q = (and-eq-true_iff (eqb r k.last) (not (eqb r none))).0 p.0 in
-    (eqb-true r k.last q.0, eqb-false r none (not_true (eqb r none) q.1), eqb-false k.code (code_of r) (not_true (eqb k.code (code_of r)) p.1))
+    (eqb-true r k.last q.0, eqb-false r none (not-true (eqb r none) q.1), eqb-false k.code (code_of r) (not-true (eqb k.code (code_of r)) p.1))
 
 -- a code that is recorded counts as recorded, over an unread one or not
 pub code_taken_lem : (stood : Bool) (code other : ℕ) → is_key other (code_taken stood code) ≡ eqb code other
@@ -81,7 +81,7 @@ recorded_new code r c =
     (λ t e.
     let on = (and-eq-true_iff (not c.settings.sleeping) c.settings.system.keyb).0 t in
     let new = found (new_key r c.keys) refl e in
-    (not_true c.settings.sleeping on.0, on.1, new.0, new.1))
+    (not-true c.settings.sleeping on.0, on.1, new.0, new.1))
     (λ t e. absurd (false≢true e))
   where
     found : (b : Bool) → new_key r c.keys ≡ b → is_key code (keys_record r c.keys) ≡ true → (b ≡ true) × (code_of r ≡ code)
@@ -123,7 +123,7 @@ last_not_none r k n = and_no (eqb r none) (eqb k.last none) (ne_eqb k.last none 
 
 -- an empty scan is no new key
 pub none_not_new : (k : Keys) → new_key none k ≡ false
-none_not_new k = ap (λ t. t && not (eqb k.code (code_of none))) (and_false (eqb none k.last))
+none_not_new k = ap (λ t. t && not (eqb k.code (code_of none))) (and-false (eqb none k.last))
 
 -- a key in two scans is held
 pub keyed_twice : (r : ℕ) (k : Keys) → r < none → (keyed r (keyed r k)).code ≡ code_of r

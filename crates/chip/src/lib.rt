@@ -15,14 +15,14 @@ ghost use Rattle.chip.specs.Record.{reset_chip, valid, valid_line, valid_setting
 ghost use Rattle.chip.specs.Entries.{handed_chip, applied_of, sampled_of, handed_scan, scanned_of, handed_lit, segments_of};
 
 // What is left of a readout: bits of a code, K6 first. With 0 bits left there is none.
-#[derive(Drop)]
+#[derive(Clone, Copy)]
 pub struct Readout {
     pub code: u8,
     pub left: u8,
 }
 
 // The line parts: the 12-bit register, the DOUT latch and the readout.
-#[derive(Drop)]
+#[derive(Clone, Copy)]
 pub struct LineParts {
     pub register: u16,
     pub latch: bool,
@@ -30,7 +30,7 @@ pub struct LineParts {
 }
 
 // The settings: system, display, blink and custom bits and the sleeping mark.
-#[derive(Drop)]
+#[derive(Clone, Copy)]
 pub struct Settings {
     pub system: System,
     pub display: Display,
@@ -40,7 +40,7 @@ pub struct Settings {
 }
 
 // The key record: code, interrupt and last scan, an address or NONE.
-#[derive(Drop)]
+#[derive(Clone, Copy)]
 pub struct Keys {
     pub code: u8,
     pub interrupt: bool,
@@ -48,7 +48,7 @@ pub struct Keys {
 }
 
 // The display is the digits: the data bytes of DIG0 to DIG7.
-#[derive(Drop)]
+#[derive(Clone, Copy)]
 pub struct Chip {
     pub line: LineParts,
     pub settings: Settings,
@@ -60,7 +60,7 @@ pub struct Chip {
 pub const NONE: u8 = 64;
 
 // What a scan recorded: one of four things.
-#[derive(Drop)]
+#[derive(Clone, Copy)]
 pub enum Recorded {
     // Nothing recorded.
     Nothing,
@@ -73,27 +73,27 @@ pub enum Recorded {
 }
 
 // A chip handed back, and whether it was refused.
-#[derive(Drop)]
+#[derive(Clone, Copy)]
 pub struct HandedChip {
     pub chip: Chip,
     pub answer: Verdict,
 }
 
-#[derive(Drop)]
+#[derive(Clone, Copy)]
 pub enum ScanAnswer {
     Took(Recorded),
     Refused(Refusal),
 }
 
 // A scanned chip handed back, and what the scan recorded.
-#[derive(Drop)]
+#[derive(Clone, Copy)]
 pub struct Scanned {
     pub chip: Chip,
     pub answer: ScanAnswer,
 }
 
 // The segments lit of DIG0 to DIG7, zeros where refused.
-#[derive(Drop)]
+#[derive(Clone, Copy)]
 pub struct Lit {
     pub segments: [u8; 8],
     pub answer: Verdict,

@@ -87,7 +87,7 @@ fn code_taken(stood: bool, code: u8) -> Recorded
 }
 
 // A key record after a scan, and what the scan recorded.
-#[derive(Drop)]
+#[derive(Clone, Copy)]
 struct AfterKeys {
     keys: Keys,
     recorded: Recorded,
@@ -135,7 +135,7 @@ fn keyed(r: u8, keys: Keys) -> AfterKeys
 }
 
 // A chip after a scan, and what the scan recorded.
-#[derive(Drop)]
+#[derive(Clone, Copy)]
 pub struct AfterScan {
     pub chip: Chip,
     pub recorded: Recorded,

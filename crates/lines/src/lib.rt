@@ -5,7 +5,7 @@ ghost use Rattle.lines.specs.Answers.{line_length, held_in, frame_for, fitting, 
 ghost use Rattle.lines.specs.Lines as L;
 
 // The bytes of a line: the first `count` of the array, and zeros past them. No form of a line has more than 33.
-#[derive(Drop)]
+#[derive(Clone, Copy)]
 pub struct Frame {
     pub bytes: [u8; 33],
     pub count: usize,

@@ -6,7 +6,7 @@
 --     last_untouched     a scan, of whatever chip, does so to the last chip
 -- Assumes nothing.
 use Rattle.std.proofs.Common.{◌≡◌, ℕ, zero, suc, ◌-◌, ◌<◌, Bool, true, false, not, ◌&&◌, T, eqb, leb, ◌⊎◌, List, [], ◌∷◌, get_or, set, sym, refl, ap, ◌∙◌, inl, inr, ⊎_elim, le_of_suc-le-suc, not-suc-le-zero, arith, leb-true}
-use mathlib.Core.Bool.{false≢true, and_false, and-eq-true_iff}
+use mathlib.Core.Bool.{false≢true, and-false, and-eq-true_iff}
 use Rattle.base.specs.Pick.{pick}
 use Rattle.base.specs.Refusals.{Told, done, refused}
 use Rattle.base.proofs.Picks.{pick_cases}
@@ -70,14 +70,14 @@ read_starts c =
     ))
 
 none_left : (keyb : Bool) (left : ℕ) → left ≡ 0 → (keyb && not (eqb left 0)) ≡ false
-none_left keyb left z = ap (λ t. keyb && not (eqb t 0)) z ∙ and_false keyb
+none_left keyb left z = ap (λ t. keyb && not (eqb t 0)) z ∙ and-false keyb
 
 word_starts : (o : Told Command) (c : Chip) → Started o c (applied_word o c)
 word_starts o c =
     ⊎_elim (λ e. rw e (read_starts c))
     (λ p.
     let over = none_left (keypad_on (applied_word o c)) (applied_word o c).line.readout.left p.1 in (
-      over ∙ sym (ap (λ t. keypad_on c && t) p.0 ∙ and_false (keypad_on c)),
+      over ∙ sym (ap (λ t. keypad_on c && t) p.0 ∙ and-false (keypad_on c)),
       λ t. absurd (false≢true (sym over ∙ t)),
     ))
     (ends_or_reads o c)

@@ -7,7 +7,7 @@
 --     look_dout          a look leaves the level as it is
 -- Assumes nothing.
 use Rattle.std.proofs.Common.{◌≡◌, ℕ, ◌-◌, Bool, true, false, not, ◌&&◌, ◌||◌, eqb, ltb, sym, refl, ap, ◌∙◌}
-use mathlib.Core.Bool.{false≢true, and_false}
+use mathlib.Core.Bool.{false≢true, and-false}
 use Rattle.base.specs.Pick.{pick}
 use Rattle.base.specs.Bits.{bit}
 use Rattle.base.proofs.Picks.{pick_cases}
@@ -130,12 +130,12 @@ agrees_by Low true true true latch stands next r inside a i seen =
 agrees_by Low true true false latch stands next r inside a i seen = i
 agrees_by Low true false over true stands next r inside a i seen = absurd (false≢true (sym (seen refl)))
 agrees_by Low true false over false stands next r inside a i seen =
-    (ap (λ t. is_differs (pick t (Differs r.offset) Nothing)) (and_false r.agrees), refl)
+    (ap (λ t. is_differs (pick t (Differs r.offset) Nothing)) (and-false r.agrees), refl)
 agrees_by High false keyb over latch stands next r inside a i seen = (refl, a)
 agrees_by High true true true latch stands next r inside a i seen = (refl, a)
 agrees_by High true true false latch stands next r inside a i seen = i
 agrees_by High true false over true stands next r inside a i seen =
-    (ap (λ t. is_differs (pick t (Differs r.offset) Nothing)) (and_false r.agrees), refl)
+    (ap (λ t. is_differs (pick t (Differs r.offset) Nothing)) (and-false r.agrees), refl)
 agrees_by High true false over false stands next r inside a i seen = absurd (false≢true (seen refl))
 
 pub look_agrees : (was now : ℕ) (c : Chip) (r : Reader) → r.agrees ≡ true → (is_edge was now ≡ true → SettledIs r.dout (dout c))

@@ -4,7 +4,7 @@
 --     read_again         where no line 18 was written since the first, no interrupt stands at the second
 -- Assumes nothing.
 use Rattle.std.proofs.Common.{◌≡◌, ℕ, ◌%◌, true, false, not, ◌&&◌, ◌||◌, eqb, List, [], ◌∷◌, ◌++◌, sym, ap, ◌∙◌, ap₂}
-use mathlib.Core.Bool.{false≢true, and-eq-true_iff, or_true}
+use mathlib.Core.Bool.{false≢true, and-eq-true_iff, or-true}
 use borrow.Author.Tests.{not-false}
 use Rattle.word.specs.Words.{decoded_of}
 use Rattle.chip.specs.Edges.{load_rises}
@@ -22,7 +22,7 @@ at_last : (n : ℕ) (items : List Item) (x : Item) (ch : Chain) → interrupt_at
     → some_interrupt n (items ++ x ∷ []) ch ≡ true
 unfolding some_interrupt chain_after_all
 at_last n [] x ch e = ap (λ t. t || false) e
-at_last n (y ∷ items) x ch e = ap (λ t. interrupt_at n y ch || t) (at_last n items x (chain_after n y ch) e) ∙ or_true (interrupt_at n y ch)
+at_last n (y ∷ items) x ch e = ap (λ t. interrupt_at n y ch || t) (at_last n items x (chain_after n y ch) e) ∙ or-true (interrupt_at n y ch)
 
 -- a read word is an edge with KEYB on; so an interrupt that stands there outside readouts stands at an edge
 stands_at : (n offset b : ℕ) (ch : Chain) → read_word n b ch ≡ true → runs (last_chip n ch) ≡ false → (last_chip n ch).keys.interrupt ≡ true

@@ -8,7 +8,7 @@
 --     tells_no_cut    it tells no cut
 -- Assumes nothing.
 use Rattle.std.proofs.Common.{◌≡◌, ℕ, ◌+◌, ◌-◌, ◌/◌, ◌%◌, ◌<◌, ◌≤◌, Bool, true, false, not, ◌&&◌, T, eqb, ◌⊎◌, List, [], ◌∷◌, ◌++◌, sym, refl, ap, ◌∙◌, ap₂, inl, inr, ⊎_elim, arith, le-ltb, eq-eqb, ne_eqb, eqb-true}
-use mathlib.Core.Bool.{false≢true, and_false, and-eq-true_iff}
+use mathlib.Core.Bool.{false≢true, and-false, and-eq-true_iff}
 use borrow.Author.Tests.{eqb-false}
 use Rattle.base.specs.Pick.{pick}
 use Rattle.base.proofs.Picks.{pick_yes, pick_no, pick_cases}
@@ -273,7 +273,7 @@ module _ (was b offset : ℕ) (c x : Chip) (r : Reader) (m : Moved was (b % 8) c
       (λ z.
       ap (λ note. codes_told (note ∷ notes)) (code_told on z)
       ∙ ap (λ t. code ∷ t)
-      (h ∙ ap (λ t. t ++ held) (only_begun (λ e. runs_on e ∙ ap (λ t. keypad_on c && not t) z ∙ and_false (keypad_on c))))
+      (h ∙ ap (λ t. t ++ held) (only_begun (λ e. runs_on e ∙ ap (λ t. keypad_on c && not t) z ∙ and-false (keypad_on c))))
       ∙ sym (ap (λ t. t ++ (held_here ++ held)) (pick_yes _ _ on)))
       (λ more.
       let e = no_cut_rise on more in

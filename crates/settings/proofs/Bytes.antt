@@ -17,7 +17,7 @@ use mathlib.Core.Bool.{Bool, true, false, not, ◌&&◌, and-eq-true_iff}
 use mathlib.Core.List.{List, [], ◌∷◌}
 use Prim.Native.Nat.{ℕ, ◌+◌, ◌*◌, ◌≤◌, ◌<◌}
 use native.Mathlib.Omega.{arith}
-use borrow.Author.Tests.{le-leb, leb-true, eq-eqb, eqb-true, not_true}
+use borrow.Author.Tests.{le-leb, leb-true, eq-eqb, eqb-true, not-true}
 use lib.Dec.{eqb, leb, lit<}
 use lib.ListN.{length, get_or}
 use Rattle.base.specs.Below.{AllBelow}
@@ -201,7 +201,7 @@ of_chip k bytes e =
       kind = eqb-true (get_or bytes 0 0) 0x21 ab.1;
       place = eqb-true (get_or bytes 1 0) k abc.1;
       high = eqb-true (cut system 6 2) 0 pq.0;
-      middle = not_true (bit system 2) pq.1;
+      middle = not-true (bit system 2) pq.1;
       display = leb-true display 0x0F pqr.1;
       custom = leb-true custom 0x7F pqrs.1;
     }

@@ -21,7 +21,7 @@ pub const MOST_LIMIT: u8 = 7;
 pub const MOST_DIGIT: u8 = 7;
 
 // System parameters: INTM SSPD DPLR KEYB DISP.
-#[derive(Drop)]
+#[derive(Clone, Copy)]
 pub struct System {
     pub intm: bool,
     pub sspd: bool,
@@ -31,14 +31,14 @@ pub struct System {
 }
 
 // Display parameters: MODE, and LIMIT as the word codes it.
-#[derive(Drop)]
+#[derive(Clone, Copy)]
 pub struct Display {
     pub mode: bool,
     pub limit: u8,
 }
 
 // What a word tells a chip to do.
-#[derive(Drop)]
+#[derive(Clone, Copy)]
 pub enum Command {
     NoOperation,
     BarLevel(u8),
@@ -58,13 +58,13 @@ pub enum Command {
     LoadDigit { digit: u8, byte: u8 },
 }
 
-#[derive(Drop)]
+#[derive(Clone, Copy)]
 pub enum Decoded {
     Means(Command),
     Refused(Refusal),
 }
 
-#[derive(Drop)]
+#[derive(Clone, Copy)]
 pub enum Encoded {
     Word(u16),
     Refused(Refusal),

@@ -1,7 +1,7 @@
 -- `chain::start` meets its contract: its test is the definition's.
 -- Assumes nothing.
 use mathlib.Core.Path.{ap, sym, ◌∙◌}
-use borrow.Author.Tests.{not_true, not-false}
+use borrow.Author.Tests.{not-true, not-false}
 use lib.ListN.{replicate}
 use Rattle.base.specs.Refusals.{done, refused}
 use Rattle.base.proofs.Picks.{pick_yes, pick_no}
@@ -16,7 +16,7 @@ returns : tie.Need-returns
 unfolding Rattle.chain.specs.Entries.started_of
 returns c =
     ap (λ (ch : Chain). record { state = ch; told = refused 3 0 }) c.zero-chain.ensures
-    ∙ sym (pick_no _ _ (sym c.before.before.is-count.ensures ∙ not_true c.before.before.is-count.result c.before.if1.true))
+    ∙ sym (pick_no _ _ (sym c.before.before.is-count.ensures ∙ not-true c.before.before.is-count.result c.before.if1.true))
 
 returns-2 : tie.Need-returns-2
 unfolding Rattle.chain.specs.Entries.started_of

@@ -1,7 +1,7 @@
 -- `reads::has_room` meets its contract: there is room for a sample in so many places.
 -- Assumes nothing.
 use Rattle.std.proofs.Common.{◌+◌, ◌*◌, ◌&&◌, leb, sym, ap, ◌∙◌, ap₂, arith, rules}
-use borrow.Author.Tests.{lt-leb, not_true, not-false}
+use borrow.Author.Tests.{lt-leb, not-true, not-false}
 use Rattle.reads.specs.Parts.{sample_room}
 use Rattle.reads.proofs.Looking.{room_where}
 use Rattle.reads.proofs.has_room.Statement.{statement}
@@ -10,7 +10,7 @@ use Rattle.reads.proofs.has_room.Tie as tie
 returns : tie.Need-returns
 returns c =
     let a = c.before.before.args in
-    sym (ap (λ t. t && leb (a.at + sample_room * a.count) a.long) (sym c.before.is-count.ensures ∙ not_true c.before.is-count.result c.if1.true))
+    sym (ap (λ t. t && leb (a.at + sample_room * a.count) a.long) (sym c.before.is-count.ensures ∙ not-true c.before.is-count.result c.if1.true))
 
 returns-2 : tie.Need-returns-2
 returns-2 c =

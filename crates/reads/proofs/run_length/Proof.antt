@@ -1,7 +1,7 @@
 -- `reads::run_length` meets its contract: The invariant: the run ends at one place, seen from here and from the start.
 -- Assumes nothing.
 use Rattle.std.proofs.Common.{◌≡◌, ◌+◌, ◌-◌, length, drop, sym, ◌∙◌, arith, rules}
-use borrow.Author.Tests.{not_true, not-false}
+use borrow.Author.Tests.{not-true, not-false}
 use Rattle.reads.specs.Parts.{run_length}
 use Rattle.reads.proofs.Lengths.{run_more, run_here, run_over}
 use Rattle.reads.proofs.run_length.Statement.{statement}
@@ -19,7 +19,7 @@ loop-holds c = omega arith
 returns : tie.Need-returns invariant-loop decreases-loop
 returns c =
     let l = c.before.before.before.before.loop in
-    omega (arith, l.invariant, run_here c.before.before.before.before.before.before.args.bytes.now l.i c.before.before.before.loop-test.true (sym c.before.is-sample.ensures ∙ not_true c.before.is-sample.result c.if1.true))
+    omega (arith, l.invariant, run_here c.before.before.before.before.before.before.args.bytes.now l.i c.before.before.before.loop-test.true (sym c.before.is-sample.ensures ∙ not-true c.before.is-sample.result c.if1.true))
 
 loop-again : tie.Need-loop-preserved invariant-loop decreases-loop
 loop-again c =

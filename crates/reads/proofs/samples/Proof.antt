@@ -1,7 +1,7 @@
 -- `reads::samples` meets its contract.
 -- Assumes nothing.
 use Rattle.std.proofs.Common.{sym, ◌∙◌, length-take-le, rules}
-use borrow.Author.Tests.{not_true, not-false}
+use borrow.Author.Tests.{not-true, not-false}
 use Rattle.reads.proofs.Firsts.{first_few, none_first, first_fits, all_first}
 use Rattle.reads.proofs.samples.Statement.{statement}
 use Rattle.reads.proofs.samples.Tie as tie
@@ -10,7 +10,7 @@ returns : tie.Need-returns
 returns c =
     let a = c.before.before.before.before.before.args in
     none_first a.what a.n a.offset a.bytes.now a.chain a.reader a.at a.out.now c.before.before.run_length.ensures
-    (sym c.before.has_room.ensures ∙ not_true c.before.has_room.result c.if1.true)
+    (sym c.before.has_room.ensures ∙ not-true c.before.has_room.result c.if1.true)
 
 slice-aggregate-played : tie.Need-slice-aggregate-played
 slice-aggregate-played c =

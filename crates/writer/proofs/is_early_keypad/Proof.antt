@@ -2,7 +2,7 @@
 -- Assumes nothing.
 use mathlib.Core.Path.{ap, sym, ◌∙◌}
 use mathlib.Core.Bool.{Bool, not, ◌&&◌}
-use borrow.Author.Tests.{not_true, not-false}
+use borrow.Author.Tests.{not-true, not-false}
 use Rattle.writer.specs.Rows.{for_last}
 use borrow.Author.Rules.{rules}
 use Rattle.writer.proofs.is_early_keypad.Statement.{statement}
@@ -11,7 +11,7 @@ use Rattle.writer.proofs.is_early_keypad.Tie as tie
 returns : tie.Need-returns
 returns c =
     let a = c.before.before.args in
-    sym (ap (λ (t : Bool). t && not (for_last a.n a.place)) (sym c.before.turns-keypad-on.ensures ∙ not_true c.before.turns-keypad-on.result c.if1.true))
+    sym (ap (λ (t : Bool). t && not (for_last a.n a.place)) (sym c.before.turns-keypad-on.ensures ∙ not-true c.before.turns-keypad-on.result c.if1.true))
 
 returns-2 : tie.Need-returns-2
 returns-2 c =

@@ -2,7 +2,7 @@
 -- Assumes nothing.
 use mathlib.Core.Path.{◌≡◌, sym, subst, ◌∙◌}
 use mathlib.Core.Bool.{Bool, true, false, not}
-use borrow.Author.Tests.{eq-eqb, ne_eqb, le-leb, lt-leb, not_true, not-false}
+use borrow.Author.Tests.{eq-eqb, ne_eqb, le-leb, lt-leb, not-true, not-false}
 use lib.Dec.{T}
 use Rattle.base.proofs.Picks.{pick_yes, pick_no}
 use Rattle.chain.proofs.Tested.{count_low}
@@ -16,7 +16,7 @@ counted {r} e n = sym e ∙ not-false r n
 
 returns : tie.Need-returns
 unfolding Rattle.writer.specs.Rows.list_test
-returns c = sym (pick_no _ _ (sym c.before.is-count.ensures ∙ not_true c.before.is-count.result c.if1.true))
+returns c = sym (pick_no _ _ (sym c.before.is-count.ensures ∙ not-true c.before.is-count.result c.if1.true))
 
 rem-if2 : tie.Need-nonzero-rem-if2
 rem-if2 c = count_low c.before.before.before.args.n (subst T (sym (counted c.before.is-count.ensures c.if1.false)) tt)

@@ -4,7 +4,7 @@ use mathlib.Core.Path.{◌≡◌, refl, ap, ap₂, sym, ◌∙◌}
 use mathlib.Core.Bool.{Bool, true, false, ◌&&◌}
 use mathlib.Core.List.{List}
 use Prim.Native.Nat.{ℕ}
-use borrow.Author.Tests.{eq-eqb, ne_eqb, not_true, not-false}
+use borrow.Author.Tests.{eq-eqb, ne_eqb, not-true, not-false}
 use lib.Dec.{eqb}
 use lib.ListN.{length, get_or}
 use Rattle.base.proofs.Picks.{pick_yes, pick_no}
@@ -63,7 +63,7 @@ returns-3 c = not_01 c.before.before.before.before.before.before.args.bytes.now 
 returns-4 : tie.Need-returns-4
 returns-4 c =
     not_count c.before.before.before.before.before.before.before.before.before.args.bytes.now c.before.before.before.before.before.before.before.if1.false
-    (sym c.before.is-count.ensures ∙ not_true c.before.is-count.result c.if4.true)
+    (sym c.before.is-count.ensures ∙ not-true c.before.is-count.result c.if4.true)
 
 returns-5 : tie.Need-returns-5
 returns-5 c =

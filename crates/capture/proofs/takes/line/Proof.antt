@@ -3,7 +3,7 @@
 use mathlib.Core.Path.{sym, ◌∙◌}
 use Prim.Native.Nat.{◌+◌}
 use native.Mathlib.Omega.{arith}
-use borrow.Author.Tests.{leb-true, leb-false, not_true, not-false}
+use borrow.Author.Tests.{leb-true, leb-false, not-true, not-false}
 use lib.ListN.{length}
 use Rattle.capture.specs.Takes.{line_room}
 use Rattle.capture.proofs.Taken.{line_where_lem, line_else, takes_so, none_taken, line_fits}
@@ -29,7 +29,7 @@ returns-3 : tie.Need-returns-3
 returns-3 c =
     let a = c.before.before.before.before.before.before.before.args in
     let h = c.before.before.has_room in
-    let short = leb-false (a.at + line_room) (length a.out.now) (sym h.ensures ∙ not_true h.result c.before.if3.true) in
+    let short = leb-false (a.at + line_room) (length a.out.now) (sym h.ensures ∙ not-true h.result c.before.if3.true) in
     none_taken a.chain a.at a.out.now
     (line_else a.what a.n a.chain a.frame a.at a.out.now (λ few held room. omega (arith, short)))
     c.untaken3.ensures

@@ -3,7 +3,7 @@
 use mathlib.Core.Path.{sym, ◌∙◌}
 use Prim.Native.Nat.{◌+◌}
 use native.Mathlib.Omega.{arith}
-use borrow.Author.Tests.{leb-true, not_true, not-false}
+use borrow.Author.Tests.{leb-true, not-true, not-false}
 use lib.ListN.{length}
 use Rattle.capture.specs.Takes.{scan_room}
 use Rattle.capture.proofs.Taken.{scan_where_lem, scan_else, takes_so, none_taken, scan_fits}
@@ -16,7 +16,7 @@ returns c =
     let a = c.before.before.before.before.args in
     let h = c.before.before.has_room in
     none_taken a.chain a.at a.out.now
-    (scan_else a.what a.n a.chain a.k a.bytes a.at a.out.now (sym h.ensures ∙ not_true h.result c.before.if1.true))
+    (scan_else a.what a.n a.chain a.k a.bytes a.at a.out.now (sym h.ensures ∙ not-true h.result c.before.if1.true))
     c.untaken.ensures
 
 scan-line-requires : tie.Need-scan-line-requires

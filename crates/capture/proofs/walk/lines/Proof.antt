@@ -3,7 +3,7 @@
 -- Assumes nothing.
 use Prim.Native.Nat.{◌-◌}
 use native.Mathlib.Omega.{arith}
-use borrow.Author.Tests.{not_true, not-false}
+use borrow.Author.Tests.{not-true, not-false}
 use lib.ListN.{length, drop}
 use Rattle.lines.specs.Lines.{lines_of}
 use Rattle.capture.specs.Replay.{lines_out, lines_end}
@@ -67,7 +67,7 @@ wrong-line-requires-2 c κs =
     let f = c.before.before.before.before.before.before.before.frame-of in
     let t = c.before.before.before.before.before.line in
     walks_refusal_room (line_reader _ _) l.invariant e.result e.ensures c.before.before.before.before.before.before.before.before.before.if1.false f.result f.ensures
-    t.ensures.taken t.ensures.puts (not_true t.result.taken c.before.if2.true)
+    t.ensures.taken t.ensures.puts (not-true t.result.taken c.before.if2.true)
 
 same-length-2 : tie.Need-same-length-2 invariant-loop decreases-loop
 same-length-2 c = search (rules, c.before.before.before.before.before.before.before.before.before.before.before.before.before.before.before.loop.invariant.fills.size)
@@ -79,7 +79,7 @@ returns-2 c =
     let f = c.before.before.before.before.before.before.before.before.before.before.frame-of in
     let t = c.before.before.before.before.before.before.before.before.line in
     walks_refused (line_reader _ _) l.invariant e.result e.ensures c.before.before.before.before.before.before.before.before.before.before.before.before.if1.false f.result f.ensures
-    t.ensures.taken t.ensures.puts (not_true t.result.taken c.before.before.before.before.if2.true) c.before.before.wrong-line2.ensures
+    t.ensures.taken t.ensures.puts (not-true t.result.taken c.before.before.before.before.if2.true) c.before.before.wrong-line2.ensures
 
 add-place : tie.Need-overflow-add-place invariant-loop decreases-loop
 add-place c = omega arith

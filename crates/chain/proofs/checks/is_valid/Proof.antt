@@ -5,7 +5,7 @@ use mathlib.Core.Bool.{Bool, ◌&&◌}
 use Prim.Native.Nat.{ℕ, ◌+◌, ◌-◌, ◌≤◌}
 use native.Mathlib.Nat.{sub-zero}
 use native.Mathlib.Omega.{arith}
-use borrow.Author.Tests.{not_true, not-false}
+use borrow.Author.Tests.{not-true, not-false}
 use lib.Dec.{leb}
 use lib.ListN.{length, drop}
 use Rattle.base.proofs.Lists.{length_mapped}
@@ -45,7 +45,7 @@ returns-2 c =
     (sym c.before.before.before.before.before.loop.invariant.1
     ∙ all_more a.n k a.chain.chips _ c.before.before.before.before.loop-test.true (omega arith)
     ∙ ap (λ (t : Bool). t && all_valid (a.n - (k + 1)) (drop (k + 1) a.chain.chips))
-    (sym c.before.is-valid.ensures ∙ not_true c.before.is-valid.result c.if2.true)))
+    (sym c.before.is-valid.ensures ∙ not-true c.before.is-valid.result c.if2.true)))
 
 loop-again : tie.Need-loop-preserved invariant-loop decreases-loop
 loop-again c =

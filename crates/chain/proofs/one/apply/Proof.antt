@@ -1,7 +1,7 @@
 -- `chain::one::apply` meets its contract: its tests are the definition's.
 -- Assumes nothing.
 use mathlib.Core.Path.{ap, sym, ◌∙◌}
-use borrow.Author.Tests.{lt-ltb, le-ltb, not_true, not-false}
+use borrow.Author.Tests.{lt-ltb, le-ltb, not-true, not-false}
 use Rattle.base.specs.Refusals.{done}
 use Rattle.base.proofs.Picks.{pick_yes, pick_no}
 use Rattle.base.proofs.Refusals.{by_done, by_refusal}
@@ -18,7 +18,7 @@ unfolding E.applied_of
 returns c =
     sym
     (by_done _ _ c.before.before.before.before.tested.ensures c.before.before.enum_told.given.1
-    ∙ pick_no _ _ (sym c.before.is-legal.ensures ∙ not_true c.before.is-legal.result c.if1.true))
+    ∙ pick_no _ _ (sym c.before.is-legal.ensures ∙ not-true c.before.is-legal.result c.if1.true))
 
 returns-2 : tie.Need-returns-2
 unfolding E.applied_of

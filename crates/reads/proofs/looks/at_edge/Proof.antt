@@ -1,7 +1,7 @@
 -- `reads::looks::at_edge` meets its contract: by the last chip.
 -- Assumes nothing.
 use Rattle.std.proofs.Common.{sym, ◌∙◌, ap₂, rules, eq-eqb, ne_eqb}
-use borrow.Author.Tests.{not_true, not-false}
+use borrow.Author.Tests.{not-true, not-false}
 use Rattle.base.proofs.Picks.{pick_yes, pick_no}
 use Rattle.reads.specs.Reads.{in_readout}
 use Rattle.reads.proofs.looks.at_edge.Statement.{statement}
@@ -10,7 +10,7 @@ use Rattle.reads.proofs.looks.at_edge.Tie as tie
 returns : tie.Need-returns
 returns c =
     let a = c.before.before.before.args in
-    c.keypad-off.ensures ∙ sym (pick_no _ _ (not_true a.last.settings.system.keyb c.before.if1.true))
+    c.keypad-off.ensures ∙ sym (pick_no _ _ (not-true a.last.settings.system.keyb c.before.if1.true))
 
 returns-2 : tie.Need-returns-2
 returns-2 c =

@@ -1,7 +1,7 @@
 -- `reads::looks::cut_by` meets its contract.
 -- Assumes nothing.
 use Rattle.std.proofs.Common.{not, ◌&&◌, eqb, sym, ap, ap₂, eq-eqb, ne_eqb}
-use borrow.Author.Tests.{not_true, not-false}
+use borrow.Author.Tests.{not-true, not-false}
 use Rattle.base.proofs.Picks.{pick_yes, pick_no}
 use Rattle.reads.proofs.looks.cut_by.Statement.{statement}
 use Rattle.reads.proofs.looks.cut_by.Tie as tie
@@ -9,7 +9,7 @@ use Rattle.reads.proofs.looks.cut_by.Tie as tie
 returns : tie.Need-returns
 returns c =
     let a = c.before.args in
-    sym (pick_no _ _ (ap (λ t. t && not (eqb a.bits 0)) (not_true a.rises c.if1.true)))
+    sym (pick_no _ _ (ap (λ t. t && not (eqb a.bits 0)) (not-true a.rises c.if1.true)))
 
 returns-2 : tie.Need-returns-2
 returns-2 c =

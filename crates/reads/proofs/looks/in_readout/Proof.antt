@@ -1,7 +1,7 @@
 -- `reads::looks::in_readout` meets its contract.
 -- Assumes nothing.
 use Rattle.std.proofs.Common.{sym, ap, ◌∙◌, rules}
-use borrow.Author.Tests.{not_true, not-false}
+use borrow.Author.Tests.{not-true, not-false}
 use Rattle.base.proofs.Picks.{pick_yes, pick_no}
 use Rattle.reads.specs.Reads.{with_bits, tells, fall_tells}
 use Rattle.reads.proofs.looks.in_readout.Statement.{statement}
@@ -10,7 +10,7 @@ use Rattle.reads.proofs.looks.in_readout.Tie as tie
 returns : tie.Need-returns
 returns c =
     let a = c.before.before.args in
-    ap (λ note. tells a.reader note) c.cut_by.ensures ∙ sym (pick_no _ _ (not_true a.falls c.before.if1.true))
+    ap (λ note. tells a.reader note) c.cut_by.ensures ∙ sym (pick_no _ _ (not-true a.falls c.before.if1.true))
 
 returns-2 : tie.Need-returns-2
 returns-2 c =

@@ -1,7 +1,7 @@
 -- `settings::frames::is_first` meets its contract: its tests are the definition's.
 -- Assumes nothing.
 use mathlib.Core.Path.{ap, sym, ◌∙◌}
-use borrow.Author.Tests.{not_true, not-false}
+use borrow.Author.Tests.{not-true, not-false}
 use lib.Dec.{eqb}
 use lib.ListN.{get_or}
 use Rattle.settings.proofs.Tests.{first_size, first_kind, first_count, first_so}
@@ -20,7 +20,7 @@ cast-n c = search (rules, c.shared-slice-known3.given 2)
 
 returns-3 : tie.Need-returns-3
 returns-3 c =
-    sym (first_count c.before.before.before.before.before.before.before.args.bytes.now c.before.before.before.before.before.if1.false c.before.before.before.if2.false (sym c.before.is-count.ensures ∙ not_true c.before.is-count.result c.if3.true))
+    sym (first_count c.before.before.before.before.before.before.before.args.bytes.now c.before.before.before.before.before.if1.false c.before.before.before.if2.false (sym c.before.is-count.ensures ∙ not-true c.before.is-count.result c.if3.true))
 
 returns-4 : tie.Need-returns-4
 returns-4 c =

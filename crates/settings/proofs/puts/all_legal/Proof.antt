@@ -3,7 +3,7 @@
 use mathlib.Core.Path.{◌≡◌, refl, ap, sym, ◌∙◌}
 use Prim.Native.Nat.{◌-◌}
 use native.Mathlib.Omega.{arith}
-use borrow.Author.Tests.{not_true, not-false}
+use borrow.Author.Tests.{not-true, not-false}
 use lib.ListN.{length, take, drop}
 use Rattle.base.specs.Below.{every}
 use Rattle.base.proofs.Every.{every_step, every_stop, every_over}
@@ -33,7 +33,7 @@ returns c =
     let a = c.before.before.before.before.before.args in
     let e = c.before.is-legal in
     let at = front_at a.n a.t2 l.k _ c.before.before.before.loop-test.true (omega (arith, l.invariant.0, c.before.before.before.loop-test.true, c.before.before.before.before.before.requires)) in
-    sym (sym l.invariant.1 ∙ every_stop legal_kept (take a.n a.t2) l.k _ at.0 (ap legal_kept at.1 ∙ sym e.ensures ∙ not_true e.result c.if1.true))
+    sym (sym l.invariant.1 ∙ every_stop legal_kept (take a.n a.t2) l.k _ at.0 (ap legal_kept at.1 ∙ sym e.ensures ∙ not-true e.result c.if1.true))
 
 loop-again : tie.Need-loop-preserved invariant-loop decreases-loop
 loop-again c =

@@ -1,7 +1,7 @@
 -- `settings::puts::tested` meets its contract: 3, then 9.
 -- Assumes nothing.
 use mathlib.Core.Path.{sym, ◌∙◌}
-use borrow.Author.Tests.{not_true, not-false}
+use borrow.Author.Tests.{not-true, not-false}
 use Rattle.base.proofs.Picks.{pick_yes, pick_no}
 use Rattle.settings.specs.Putting.{settings_test}
 use Rattle.settings.proofs.Bytes.{count_within}
@@ -13,7 +13,7 @@ returns : tie.Need-returns
 unfolding settings_test
 returns c =
     let t = c.before.is-count in
-    sym (pick_no _ _ (sym t.ensures ∙ not_true t.result c.if1.true))
+    sym (pick_no _ _ (sym t.ensures ∙ not-true t.result c.if1.true))
 
 all-legal-requires : tie.Need-all-legal-requires
 all-legal-requires c κs =
@@ -25,7 +25,7 @@ unfolding settings_test
 returns-2 c =
     let t = c.before.before.before.is-count in
     let l = c.before.all-legal in
-    sym (pick_yes _ _ (sym t.ensures ∙ not-false t.result c.before.before.if1.false) ∙ pick_no _ _ (sym l.ensures ∙ not_true l.result c.if2.true))
+    sym (pick_yes _ _ (sym t.ensures ∙ not-false t.result c.before.before.if1.false) ∙ pick_no _ _ (sym l.ensures ∙ not-true l.result c.if2.true))
 
 returns-3 : tie.Need-returns-3
 unfolding settings_test

@@ -3,7 +3,7 @@
 use mathlib.Core.Path.{◌≡◌, ap, sym, ◌∙◌}
 use Prim.Native.Nat.{◌-◌}
 use native.Mathlib.Omega.{arith}
-use borrow.Author.Tests.{not_true, not-false}
+use borrow.Author.Tests.{not-true, not-false}
 use lib.ListN.{length, replicate}
 use lib.Seq.{length-take-le}
 use Rattle.chain.specs.Chain.{most}
@@ -55,7 +55,7 @@ returns-2 c =
     c.refused2.ensures
     ∙ ap (kiosk_by c.before.before.before.before.before.before.before.before.before.before.before.before.before.args.n)
     (left_refused c.before.before.before.before.before.before.before.before.before.before.loop.invariant c.before.before.before.before.before.before.before.before.before.loop-test.true c.before.before.before.before.before.before.before.before.line-end.result c.before.before.before.before.before.before.before.before.line-end.ensures c.before.before.before.before.before.before.before.if1.false c.before.before.before.before.before.frame-of.result c.before.before.before.before.before.frame-of.ensures
-    (sym c.before.before.is-chip.ensures ∙ not_true c.before.before.is-chip.result c.before.if2.true))
+    (sym c.before.before.is-chip.ensures ∙ not-true c.before.before.is-chip.result c.before.if2.true))
 
 array-share-prefix-bytes-2 : tie.Need-array-share-prefix-bytes-2 invariant-loop decreases-loop
 array-share-prefix-bytes-2 c =

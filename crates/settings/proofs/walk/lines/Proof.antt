@@ -2,7 +2,7 @@
 -- Assumes nothing.
 use mathlib.Core.Path.{◌≡◌, refl, sym, ◌∙◌}
 use native.Mathlib.Omega.{arith}
-use borrow.Author.Tests.{not_true, not-false}
+use borrow.Author.Tests.{not-true, not-false}
 use lib.ListN.{length, take}
 use lib.Seq.{length-take-le}
 use Rattle.lines.proofs.Frames.{frame_holds}
@@ -35,7 +35,7 @@ returns-2 : tie.Need-returns-2
 returns-2 c =
     c.refused2.ensures
     ∙ lines_other c.before.before.before.before.before.before.before.before.before.before.args.text.now c.before.before.before.before.before.before.before.before.line-end.result c.before.before.before.before.before.before.before.before.line-end.ensures c.before.before.before.before.before.before.before.if1.false c.before.before.before.before.before.frame-of.result c.before.before.before.before.before.frame-of.ensures
-    (sym c.before.before.is-first.ensures ∙ not_true c.before.before.is-first.result c.before.if2.true)
+    (sym c.before.before.is-first.ensures ∙ not-true c.before.before.is-first.result c.before.if2.true)
 
 chips-requires : tie.Need-chips-requires
 chips-requires c κs =

@@ -1,7 +1,7 @@
 -- `streams::raw::head_byte` meets its contract: 00 and 01 are held, N starts a chain, and anything else is refused.
 -- Assumes nothing.
 use Rattle.std.proofs.Common.{T, sym, ap, ◌∙◌, subst, rules}
-use borrow.Author.Tests.{not_true, not-false}
+use borrow.Author.Tests.{not-true, not-false}
 use Rattle.chain.proofs.Passed.{start_done}
 use Rattle.streams.proofs.Stepping.{step_as, nothing_written, head_other, head_next, head_none, head_count}
 use Rattle.streams.proofs.raw.head_byte.Statement.{statement}
@@ -21,7 +21,7 @@ returns-3 : tie.Need-returns-3
 returns-3 c =
     let a = c.before.before.before.before.before.before.before.before.before.before.args in
     let k = c.before.before.before.before.before.is-count in
-    step_as (head_none a.state a.b c.before.before.before.before.before.before.if1.false (sym k.ensures ∙ not_true k.result c.before.before.before.before.if3.true))
+    step_as (head_none a.state a.b c.before.before.before.before.before.before.if1.false (sym k.ensures ∙ not-true k.result c.before.before.before.before.if3.true))
     c.before.before.refused2.ensures
 
 returns-4 : tie.Need-returns-4

@@ -1,7 +1,7 @@
 -- `streams::raw::item_byte` meets its contract: by what is held, and what the byte is.
 -- Assumes nothing.
 use Rattle.std.proofs.Common.{sym, ◌∙◌, rules}
-use borrow.Author.Tests.{not_true, not-false}
+use borrow.Author.Tests.{not-true, not-false}
 use Rattle.streams.proofs.RawSteps.{starts_sample, item_scan, item_other, item_more, item_whole}
 use Rattle.streams.proofs.Stepping.{step_as, nothing_written}
 use Rattle.streams.proofs.raw.item_byte.Statement.{statement}
@@ -13,7 +13,7 @@ returns c =
     let p = c.before.before.before.before.before.before.before.before.before.requires in
     let k = c.before.before.before.before.before.is-scan in
     let none = c.before.before.before.before.before.before.if1.true in
-    step_as (item_other a.what a.state a.b none (starts_sample a.state a.b p.0 none ∙ p.1.0) (sym k.ensures ∙ not_true k.result c.before.before.before.before.if2.true))
+    step_as (item_other a.what a.state a.b none (starts_sample a.state a.b p.0 none ∙ p.1.0) (sym k.ensures ∙ not-true k.result c.before.before.before.before.if2.true))
     c.before.before.refused.ensures
 
 returns-2 : tie.Need-returns-2

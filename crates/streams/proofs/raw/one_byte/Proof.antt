@@ -1,7 +1,7 @@
 -- `streams::raw::one_byte` meets its contract: one of the first three bytes, or one of an item.
 -- Assumes nothing.
 use Rattle.std.proofs.Common.{sym, ◌∙◌, rules}
-use borrow.Author.Tests.{not_true, not-false}
+use borrow.Author.Tests.{not-true, not-false}
 use Rattle.streams.proofs.RawSteps.{by_items, by_head}
 use Rattle.streams.proofs.Stepping.{step_as}
 use Rattle.streams.proofs.raw.one_byte.Statement.{statement}
@@ -11,7 +11,7 @@ returns : tie.Need-returns
 returns c =
     let a = c.before.before.before.before.before.before.before.args in
     let k = c.before.before.before.before.before.is-count in
-    step_as (by_head a.what a.state a.b (sym k.ensures ∙ not_true k.result c.before.before.before.before.if1.true)) c.before.before.head_byte.ensures
+    step_as (by_head a.what a.state a.b (sym k.ensures ∙ not-true k.result c.before.before.before.before.if1.true)) c.before.before.head_byte.ensures
 
 item-byte-requires : tie.Need-item-byte-requires
 item-byte-requires c κs =

@@ -1,7 +1,7 @@
 -- `streams::samples::starts_run` meets its contract.
 -- Assumes nothing.
 use Rattle.std.proofs.Common.{sym, ◌∙◌, rules}
-use borrow.Author.Tests.{not_true, not-false}
+use borrow.Author.Tests.{not-true, not-false}
 use Rattle.streams.proofs.RawSteps.{starts_uncounted, starts_held, starts_sample}
 use Rattle.streams.proofs.samples.starts_run.Statement.{statement}
 use Rattle.streams.proofs.samples.starts_run.Tie as tie
@@ -10,7 +10,7 @@ returns : tie.Need-returns
 returns c =
     let a = c.before.before.args in
     let k = c.before.is-count in
-    starts_uncounted a.state a.b (sym k.ensures ∙ not_true k.result c.if1.true)
+    starts_uncounted a.state a.b (sym k.ensures ∙ not-true k.result c.if1.true)
 
 returns-2 : tie.Need-returns-2
 returns-2 c =

@@ -1,7 +1,7 @@
 -- `streams::text::ended` meets its contract: the first line, or a later one that is refused or taken.
 -- Assumes nothing.
 use Rattle.std.proofs.Common.{length, sym, ap, ◌∙◌, arith, rules}
-use borrow.Author.Tests.{not_true, not-false}
+use borrow.Author.Tests.{not-true, not-false}
 use Rattle.streams.proofs.TextLines.{line_few, line_first, line_refused_out, line_refused, line_taken}
 use Rattle.streams.proofs.text.ended.Statement.{statement}
 use Rattle.streams.proofs.text.ended.Tie as tie
@@ -18,7 +18,7 @@ returns c =
     let a = c.before.before.before.before.before.before.before.before.before.before.before.args in
     let f = c.before.before.before.before.before.before.frame in
     let k = c.before.before.before.before.before.is-count in
-    line_first a.what a.state f.result f.ensures (sym k.ensures ∙ not_true k.result c.before.before.before.before.if1.true) c.before.before.first.ensures
+    line_first a.what a.state f.result f.ensures (sym k.ensures ∙ not-true k.result c.before.before.before.before.if1.true) c.before.before.first.ensures
 
 refused-requires : tie.Need-refused-requires
 refused-requires c κs =
@@ -28,7 +28,7 @@ refused-requires c κs =
     let k = c.before.before.before.before.before.before.before.before.is-count in
     let t = c.before.before.before.before.before.line in
     let same =
-    line_refused_out a.what a.state f.result f.ensures (sym k.ensures ∙ not-false k.result c.before.before.before.before.before.before.before.if1.false) p.1 t.ensures (not_true t.result.taken c.before.if2.true)
+    line_refused_out a.what a.state f.result f.ensures (sym k.ensures ∙ not-false k.result c.before.before.before.before.before.before.before.if1.false) p.1 t.ensures (not-true t.result.taken c.before.if2.true)
     in
     omega (arith, p.1, ap length same)
 
@@ -39,7 +39,7 @@ returns-2 c =
     let k = c.before.before.before.before.before.before.before.before.before.before.before.is-count in
     let t = c.before.before.before.before.before.before.before.before.line in
     line_refused a.what a.state f.result f.ensures (sym k.ensures ∙ not-false k.result c.before.before.before.before.before.before.before.before.before.before.if1.false) c.before.before.before.before.before.before.before.before.before.before.before.before.before.before.before.before.before.requires.1 t.ensures
-    (not_true t.result.taken c.before.before.before.before.if2.true) c.before.before.refused.ensures
+    (not-true t.result.taken c.before.before.before.before.if2.true) c.before.before.refused.ensures
 
 returns-3 : tie.Need-returns-3
 returns-3 c =

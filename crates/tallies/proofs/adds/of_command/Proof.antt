@@ -2,7 +2,7 @@
 -- Assumes nothing.
 use mathlib.Core.Path.{ap, sym, ◌∙◌}
 use mathlib.Core.Bool.{not, ◌&&◌}
-use borrow.Author.Tests.{not_true, not-false}
+use borrow.Author.Tests.{not-true, not-false}
 use Rattle.base.specs.Bits.{bit_value}
 use Rattle.tallies.specs.Counts.{counts, command_counts}
 use borrow.Author.Rules.{rules}
@@ -19,7 +19,7 @@ returns-2 : tie.Need-returns-2
 returns-2 c =
     let a = c.before.before.before.before.before.args in
     c.before.before.before.before.none.ensures
-    ∙ sym (ap (λ x. command_counts x a.keyb a.stands) c.before.enum-told14.given.1 ∙ ap (λ b. counts 0 (bit_value (b && a.stands)) 0 0) (not_true a.keyb c.if2.true))
+    ∙ sym (ap (λ x. command_counts x a.keyb a.stands) c.before.enum-told14.given.1 ∙ ap (λ b. counts 0 (bit_value (b && a.stands)) 0 0) (not-true a.keyb c.if2.true))
 
 returns-7 : tie.Need-returns-7
 returns-7 c =

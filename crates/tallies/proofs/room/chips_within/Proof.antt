@@ -4,7 +4,7 @@ use mathlib.Core.Path.{◌≡◌, refl, sym, ◌∙◌}
 use Prim.Native.Nat.{◌-◌}
 use native.Mathlib.Omega.{arith}
 use lib.ListN.{length, drop}
-use borrow.Author.Tests.{not_true, not-false}
+use borrow.Author.Tests.{not-true, not-false}
 use Rattle.base.proofs.Lists.{length_mapped}
 use Rattle.chain.specs.Chain.{most}
 use Rattle.tallies.specs.Parts.{within}
@@ -28,7 +28,7 @@ returns c =
     let l = c.before.before.before.before.loop in
     let a = c.before.before.before.before.before.args in
     let e = c.before.chip-within in
-    sym (sym l.invariant.1 ∙ every_stop (within a.top) a.t1 l.k _ (omega (arith, l.invariant.0, c.before.before.before.loop-test.true)) (sym e.ensures ∙ not_true e.result c.if1.true))
+    sym (sym l.invariant.1 ∙ every_stop (within a.top) a.t1 l.k _ (omega (arith, l.invariant.0, c.before.before.before.loop-test.true)) (sym e.ensures ∙ not-true e.result c.if1.true))
 
 loop-again : tie.Need-loop-preserved invariant-loop decreases-loop
 loop-again c =

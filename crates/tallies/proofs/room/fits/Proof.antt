@@ -4,7 +4,7 @@ use mathlib.Core.Path.{ap, sym, ◌∙◌}
 use mathlib.Core.Bool.{◌&&◌}
 use Prim.Native.Nat.{◌-◌, ◌≤◌}
 use native.Mathlib.Omega.{arith}
-use borrow.Author.Tests.{not_true, not-false}
+use borrow.Author.Tests.{not-true, not-false}
 use Rattle.tallies.specs.Parts.{at_most}
 use Rattle.base.specs.Below.{every}
 use Rattle.tallies.specs.Tallies.{largest_count}
@@ -18,7 +18,7 @@ returns c =
     let a = c.before.before.before.before.args in
     let e = c.before.chips-within in
     let small : a.many ≤ largest_count = omega (arith, c.before.before.before.before.ranges.many) in
-    sym (sym (within_room a.many a.tally small) ∙ ap (λ b. b && every (at_most (largest_count - a.many)) a.tally.codes) (sym e.ensures ∙ not_true e.result c.if1.true))
+    sym (sym (within_room a.many a.tally small) ∙ ap (λ b. b && every (at_most (largest_count - a.many)) a.tally.codes) (sym e.ensures ∙ not-true e.result c.if1.true))
 
 returns-2 : tie.Need-returns-2
 returns-2 c =

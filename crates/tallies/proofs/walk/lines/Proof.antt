@@ -3,7 +3,7 @@
 use mathlib.Core.Path.{sym, ◌∙◌}
 use Prim.Native.Nat.{◌-◌}
 use native.Mathlib.Omega.{arith}
-use borrow.Author.Tests.{not_true, not-false}
+use borrow.Author.Tests.{not-true, not-false}
 use lib.ListN.{length, drop}
 use Rattle.lines.specs.Lines.{lines_of}
 use Rattle.capture.proofs.EachLine.{frame_count}
@@ -53,7 +53,7 @@ returns-2 c =
     let f = c.before.before.before.frame-of in
     let t = c.before.before.line in
     let i = c.before.is-taken in
-    walking_refused l.invariant e.result e.ensures c.before.before.before.before.before.if1.false f.result f.ensures t.result t.ensures (sym i.ensures ∙ not_true i.result c.if2.true)
+    walking_refused l.invariant e.result e.ensures c.before.before.before.before.before.if1.false f.result f.ensures t.result t.ensures (sym i.ensures ∙ not-true i.result c.if2.true)
 
 add-place : tie.Need-overflow-add-place invariant-loop decreases-loop
 add-place c = omega arith

@@ -3,7 +3,7 @@
 use mathlib.Core.Path.{ap, sym, ◌∙◌}
 use mathlib.Core.List.{map}
 use lib.ListN.{length-map}
-use borrow.Author.Tests.{not_true, not-false}
+use borrow.Author.Tests.{not-true, not-false}
 use Rattle.chain.specs.Events.{sample}
 use Rattle.tallies.specs.Tallies.{fits}
 use Rattle.tallies.proofs.Taken.{full_line, counted_line_lem}
@@ -16,7 +16,7 @@ returns c =
     let a = c.before.before.before.before.args in
     let f = c.before.fits2 in
     full_line a.n a.number a.state (map sample a.ss.now)
-    (ap (λ m. fits m a.state.tally) (length-map a.ss.now sample) ∙ sym f.ensures ∙ not_true f.result c.if1.true)
+    (ap (λ m. fits m a.state.tally) (length-map a.ss.now sample) ∙ sym f.ensures ∙ not-true f.result c.if1.true)
 
 samples-requires : tie.Need-samples-requires
 samples-requires c κs = (c.before.before.before.before.requires, sym c.before.fits2.ensures ∙ not-false c.before.fits2.result c.if1.false)

@@ -3,7 +3,7 @@
 use mathlib.Core.Path.{ap, sym, ◌∙◌}
 use mathlib.Core.List.{[], ◌∷◌}
 use native.Mathlib.Nat.{lt_of_lt_of_le}
-use borrow.Author.Tests.{not_true, not-false}
+use borrow.Author.Tests.{not-true, not-false}
 use Rattle.chip.specs.Scans.{ScanLeaves}
 use Rattle.chain.specs.Events.{scan}
 use Rattle.tallies.specs.Parts.{scanned_tally}
@@ -16,7 +16,7 @@ use Rattle.tallies.proofs.walk.scan_line.Tie as tie
 returns : tie.Need-returns
 returns c =
     let a = c.before.before.before.before.args in
-    full_line a.n a.number a.state (scan a.k a.bytes ∷ []) (sym c.before.fits2.ensures ∙ not_true c.before.fits2.result c.if1.true)
+    full_line a.n a.number a.state (scan a.k a.bytes ∷ []) (sym c.before.fits2.ensures ∙ not-true c.before.fits2.result c.if1.true)
 
 scan-requires : tie.Need-scan-requires
 scan-requires c κs =

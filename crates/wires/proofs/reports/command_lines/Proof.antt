@@ -3,7 +3,7 @@
 use mathlib.Core.Path.{refl}
 use mathlib.Core.List.{[], ◌∷◌}
 use native.Mathlib.Omega.{arith}
-use borrow.Author.Tests.{not_true, not-false}
+use borrow.Author.Tests.{not-true, not-false}
 use lib.ListN.{length-append}
 use Rattle.base.specs.Pick.{pick}
 use Rattle.base.proofs.Picks.{pick_yes, pick_no}
@@ -21,7 +21,7 @@ returns c =
     let p = line_for (0x42 ∷ a.first ∷ a.second ∷ []) in
     let q = pick a.read (line_for (0x43 ∷ a.key ∷ [])) [] in
     let put = line_put (0x42 ∷ a.first ∷ a.second ∷ []) refl (omega (arith, length-append p q, s.requires)) c.before.before.before.put-line.ensures in
-    puts_both p q s.requires put (puts_as (pick_no _ _ (not_true a.read c.if1.true)) (none_put _ _))
+    puts_both p q s.requires put (puts_as (pick_no _ _ (not-true a.read c.if1.true)) (none_put _ _))
 
 returns-2 : tie.Need-returns-2
 returns-2 c =

@@ -2,7 +2,7 @@
 -- Assumes nothing.
 use mathlib.Core.Path.{◌≡◌, sym, ◌∙◌}
 use native.Mathlib.Omega.{arith}
-use borrow.Author.Tests.{not_true, not-false}
+use borrow.Author.Tests.{not-true, not-false}
 use lib.ListN.{length}
 use lib.Seq.{length-take-le}
 use Rattle.wires.proofs.Forms.{taken_as, room_as, not_taken, held_some, held_samples, held_other}
@@ -29,7 +29,7 @@ returns c =
     let is = c.before.is-samples in
     let big : length a.frame.bytes ≡ 33 = search rules in
     not_taken a.what a.key a.panel a.at a.out.now
-    (held_other a.frame.bytes a.frame.count (omega (arith, s.requires.0)) (sym is.ensures ∙ not_true is.result c.if1.true))
+    (held_other a.frame.bytes a.frame.count (omega (arith, s.requires.0)) (sym is.ensures ∙ not-true is.result c.if1.true))
 
 sub-samples : tie.Need-overflow-sub-samples
 sub-samples c =

@@ -2,7 +2,7 @@
 -- Assumes nothing.
 use mathlib.Core.Path.{refl}
 use native.Mathlib.Omega.{arith}
-use borrow.Author.Tests.{not_true, not-false}
+use borrow.Author.Tests.{not-true, not-false}
 use lib.ListN.{length}
 use Rattle.capture.proofs.Firsts.{piece_room}
 use Rattle.capture.proofs.Reported.{refusal_length}
@@ -25,14 +25,14 @@ wrong-line-requires c κs =
     let s = c.before.before.before.before.before.before.before in
     let a = s.args in
     let first = c.before.before.before.first_of in
-    let e = none_out a.what a.text.now first.result c.before.before.before.before.if1.false first.ensures (not_true first.result.good c.before.if2.true) in
+    let e = none_out a.what a.text.now first.result c.before.before.before.before.if1.false first.ensures (not-true first.result.good c.before.if2.true) in
     omega (arith, piece_room (length a.out.now) e.0 s.requires, refusal_length 10 1)
 
 returns-2 : tie.Need-returns-2
 returns-2 c =
     let a = c.before.before.before.before.before.before.before.before.before.before.args in
     let first = c.before.before.before.before.before.before.first_of in
-    let e = none_out a.what a.text.now first.result c.before.before.before.before.before.before.before.if1.false first.ensures (not_true first.result.good c.before.before.before.before.if2.true) in
+    let e = none_out a.what a.text.now first.result c.before.before.before.before.before.before.before.if1.false first.ensures (not-true first.result.good c.before.before.before.before.if2.true) in
     replays_so _ e c.before.before.wrong-line.ensures
 
 add-lines : tie.Need-overflow-add-lines

@@ -6,7 +6,7 @@ use Prim.Native.Nat.{◌≤◌}
 use native.Mathlib.Omega.{arith}
 use lib.Dec.{T}
 use lib.ListN.{get_or}
-use borrow.Author.Tests.{not_true, not-false, le-leb, lt-leb}
+use borrow.Author.Tests.{not-true, not-false, le-leb, lt-leb}
 use Rattle.base.specs.Below.{below}
 use Rattle.base.proofs.Picks.{pick_yes, pick_no}
 use Rattle.chain.proofs.Tested.{count_high}
@@ -19,7 +19,7 @@ returns : tie.Need-returns
 unfolding Rattle.zhaqsumir.specs.Panels.tested_in
 returns c =
     let n = c.before.is-count in
-    sym (pick_no _ _ (sym n.ensures ∙ not_true n.result c.if1.true))
+    sym (pick_no _ _ (sym n.ensures ∙ not-true n.result c.if1.true))
 
 returns-2 : tie.Need-returns-2
 unfolding Rattle.zhaqsumir.specs.Panels.tested_in
@@ -45,7 +45,7 @@ returns-3 c =
     let ns = c.before.before.before.before.before.before.before.before.args.numbers.now in
     sym
     (pick_yes _ _ (sym n.ensures ∙ not-false n.result c.before.before.before.before.before.if1.false)
-    ∙ pick_no _ _ (ap₂ ◌&&◌ (le-leb (get_or ns 1 0) 255 c.before.before.before.if2.false) (sym f.ensures ∙ not_true f.result c.if3.true)))
+    ∙ pick_no _ _ (ap₂ ◌&&◌ (le-leb (get_or ns 1 0) 255 c.before.before.before.if2.false) (sym f.ensures ∙ not-true f.result c.if3.true)))
 
 returns-4 : tie.Need-returns-4
 unfolding Rattle.zhaqsumir.specs.Panels.tested_in

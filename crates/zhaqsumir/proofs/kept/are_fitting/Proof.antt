@@ -5,7 +5,7 @@ use mathlib.Core.Bool.{true, ◌&&◌}
 use Prim.Native.Nat.{ℕ, ◌+◌, ◌*◌, ◌-◌, ◌≤◌}
 use native.Mathlib.Numerals.{add-one}
 use native.Mathlib.Omega.{arith}
-use borrow.Author.Tests.{not_true, not-false}
+use borrow.Author.Tests.{not-true, not-false}
 use Rattle.base.specs.Below.{below}
 use Rattle.zhaqsumir.specs.Settings.{kept_fits, kept_fits_in}
 use Rattle.zhaqsumir.proofs.ChainRows.{part_rest}
@@ -28,7 +28,7 @@ returns c =
     let a = c.before.before.before.before.before.before.args in
     let k = c.before.before.before.before.loop.k in
     let f = c.before.is-fitting in
-    let no = sym (f.ensures ∙ ap kept_fits (part_rest (1 + 9 * k) a.numbers.now)) ∙ not_true f.result c.if1.true in
+    let no = sym (f.ensures ∙ ap kept_fits (part_rest (1 + 9 * k) a.numbers.now)) ∙ not-true f.result c.if1.true in
     sym (not_below (kept_fits_in a.numbers.now) a.n k c.before.before.before.loop-test.true no)
 
 loop-again : tie.Need-loop-preserved invariant-loop decreases-loop

@@ -4,7 +4,7 @@ use mathlib.Core.Path.{sym, subst, ◌∙◌}
 use Prim.Native.Nat.{◌≤◌}
 use native.Mathlib.Omega.{arith}
 use lib.Dec.{T}
-use borrow.Author.Tests.{not_true, not-false}
+use borrow.Author.Tests.{not-true, not-false}
 use Rattle.base.proofs.Picks.{pick_yes, pick_no}
 use Rattle.chain.proofs.Tested.{count_high}
 use Rattle.zhaqsumir.specs.Panels.{count_in}
@@ -16,7 +16,7 @@ returns : tie.Need-returns
 unfolding Rattle.zhaqsumir.specs.Settings.settings_tested
 returns c =
     let n = c.before.is-count in
-    sym (pick_no _ _ (sym n.ensures ∙ not_true n.result c.if1.true))
+    sym (pick_no _ _ (sym n.ensures ∙ not-true n.result c.if1.true))
 
 are-fitting-requires : tie.Need-are-fitting-requires
 are-fitting-requires c κs =
@@ -32,7 +32,7 @@ returns-2 c =
     let f = c.before.are-fitting in
     sym
     (pick_yes _ _ (sym n.ensures ∙ not-false n.result c.before.before.before.if1.false)
-    ∙ pick_no _ _ (sym f.ensures ∙ not_true f.result c.if2.true))
+    ∙ pick_no _ _ (sym f.ensures ∙ not-true f.result c.if2.true))
 
 returns-3 : tie.Need-returns-3
 unfolding Rattle.zhaqsumir.specs.Settings.settings_tested

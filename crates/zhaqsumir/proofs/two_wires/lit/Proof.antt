@@ -1,7 +1,7 @@
 -- `zhaqsumir::two_wires::lit` meets its contract: numbers that fit stand for the panel whose segments are told.
 -- Assumes nothing.
 use mathlib.Core.Path.{ap, sym, ◌∙◌}
-use borrow.Author.Tests.{not_true, not-false}
+use borrow.Author.Tests.{not-true, not-false}
 use Rattle.ch450.specs.declared.Panel.{Panel}
 use Rattle.ch450.specs.Entries.{segments_of}
 use Rattle.zhaqsumir.specs.TwoWires.{lit_by, lit_from}
@@ -13,7 +13,7 @@ use Rattle.zhaqsumir.proofs.two_wires.lit.Tie as tie
 returns : tie.Need-returns
 returns c =
     let f = c.before.is-fitting in
-    sym (ap lit_from (panel_refused c.before.before.args.numbers.now (sym f.ensures ∙ not_true f.result c.if1.true)))
+    sym (ap lit_from (panel_refused c.before.before.args.numbers.now (sym f.ensures ∙ not-true f.result c.if1.true)))
 
 panel-of-requires : tie.Need-panel-of-requires
 panel-of-requires c κs = let f = c.before.is-fitting in sym f.ensures ∙ not-false f.result c.if1.false

@@ -2,7 +2,7 @@
 -- Assumes nothing.
 use mathlib.Core.Path.{ap, sym, ◌∙◌}
 use Prim.Native.Nat.{ℕ}
-use borrow.Author.Tests.{not_true, not-false}
+use borrow.Author.Tests.{not-true, not-false}
 use Rattle.base.specs.Refusals.{Told, Outcome}
 use Rattle.ch450.specs.declared.Panel.{Panel}
 use Rattle.ch450.specs.Entries.{played_of}
@@ -18,7 +18,7 @@ returns c =
     let a = c.before.before.before.before.args in
     let ns = a.numbers.now in
     let f = c.before.before.is-fitting in
-    let no = panel_refused ns (sym f.ensures ∙ not_true f.result c.before.if1.true) in
+    let no = panel_refused ns (sym f.ensures ∙ not-true f.result c.before.if1.true) in
     let said = ap (λ (t : Told Panel). play_of t ns a.key a.samples.now) no in
     record { numbers = sym (ap (λ o. alone o.told) said); panel = sym (ap (λ o. o.state) said) }
 

@@ -1,0 +1,16 @@
+-- `lines::line_end` meets its contract. The invariant: the line ends at one place, seen from here and from the start.
+-- Assumes nothing.
+use mathlib.Core.Path.{◌≡◌, refl}
+use Prim.Native.Nat.{◌+◌, ◌-◌}
+use native.Mathlib.Omega.{arith}
+use lib.ListN.{length, drop}
+use Rattle.lines.specs.Answers.{line_length}
+use Rattle.lines.proofs.Lines.{end_here, end_more, end_over}
+use borrow.Author.Rules.{rules}
+use Rattle.lines.proofs.line_end.Given as goal
+
+abbrev pub invariant-loop-at : goal.invariant-loop-at
+invariant-loop-at l = l.at + line_length (drop l.at l.text) ≡ l.from + line_length (drop l.from l.text)
+
+abbrev pub decreases-loop-at : goal.decreases-loop-at
+decreases-loop-at l = length l.text - l.at
