@@ -21,7 +21,7 @@ dig_low addr dig e = subst (λ x. x < 8) (sym e) (cut_lt addr 0 3)
 pub returns-then-addr-gt63 : goal.returns-then-addr-gt63
 returns-then-addr-gt63 c =
     let a = c.args in
-    sym (segment_none a.on a.addr a.t3 (search rules) (λ dig h. fits_byte (search rules)) c.if-addr-gt63.true)
+    sym (segment_none a.on a.addr a.digits (search rules) (λ dig h. fits_byte (search rules)) c.if-addr-gt63.true)
 
 pub bounds-digits-dig : goal.bounds-digits-dig
 bounds-digits-dig c = search (rules, dig_low c.args.addr c.field-dig.result c.field-dig.ensures)
@@ -36,7 +36,7 @@ pub returns : goal.returns
 returns c =
     let a = c.args in
     sym
-    (segment_at a.on a.addr a.t3 (search rules) (λ dig h. fits_byte (search rules)) c.field-dig.result c.field.result
+    (segment_at a.on a.addr a.digits (search rules) (λ dig h. fits_byte (search rules)) c.field-dig.result c.field.result
     (c.field-dig.ensures ∙ cut_zero a.addr 3)
     (c.field.ensures ∙ omega arith)
     c.with_bit-byte.result c.with_bit-byte.ensures)

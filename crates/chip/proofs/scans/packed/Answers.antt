@@ -64,8 +64,8 @@ module _ (b : ℕ → ℕ) where
 
 pub returns : goal.returns
 returns c =
-    let fits : (d : ℕ) → Fits w8 (get_or c.args.t1 d 0) = λ d. search rules in
-    let byte : ℕ → ℕ = λ d. get_or c.args.t1 d 0 in
+    let fits : (d : ℕ) → Fits w8 (get_or c.args.bytes d 0) = λ d. search rules in
+    let byte : ℕ → ℕ = λ d. get_or c.args.bytes d 0 in
     λ dig seg hd hs.
     sym (byte_of_bit (together byte 7) dig seg hs)
     ∙ ap₂ bit (apart byte (λ d. (fits d).fits) dig hd ∙ ap byte (same_dig dig seg hd)) (same_seg dig seg hd)
