@@ -10,14 +10,14 @@ use crate::{Chain, checks};
 use base::{Refusal, Verdict};
 
 // How many LOAD rises a block had, or why it was refused.
-#[derive(Drop)]
+#[derive(Clone, Copy)]
 pub enum Rises {
     Count(usize),
     Refused(Refusal),
 }
 
 // The record after a block, and its answer.
-#[derive(Drop)]
+#[derive(Clone, Copy)]
 pub struct AfterBlock {
     pub chain: Chain,
     pub answer: Rises,

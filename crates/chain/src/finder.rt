@@ -5,14 +5,14 @@ ghost use Rattle.chain.specs.Finder as F;
 use base::{Refusal, Verdict};
 
 // Where the next LOAD rise stands.
-#[derive(Drop)]
+#[derive(Clone, Copy)]
 pub enum Rise {
     At(usize),
     Nothing,
 }
 
 // What the finder reports: the rise and how many samples it passed.
-#[derive(Drop)]
+#[derive(Clone, Copy)]
 pub struct Found {
     pub rise: Rise,
     pub passed: usize,
@@ -20,7 +20,7 @@ pub struct Found {
 }
 
 // The rise, and the samples counted on the way to it.
-#[derive(Drop)]
+#[derive(Clone, Copy)]
 struct Way {
     rise: Rise,
     passed: usize,

@@ -19,21 +19,21 @@ ghost use Rattle.chain.specs.Entries as E;
 pub const MOST: usize = 8;
 
 // The chips, and the levels last seen on the three wires.
-#[derive(Drop)]
+#[derive(Clone, Copy)]
 pub struct Chain {
     pub chips: [Chip; MOST],
     pub levels: u8,
 }
 
 // A chain handed back, and whether it was refused.
-#[derive(Drop)]
+#[derive(Clone, Copy)]
 pub struct HandedChain {
     pub chain: Chain,
     pub answer: Verdict,
 }
 
 // What the host sees at the last chip's DOUT, low where refused.
-#[derive(Drop)]
+#[derive(Clone, Copy)]
 pub struct Seen {
     pub level: bool,
     pub answer: Verdict,

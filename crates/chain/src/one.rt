@@ -10,14 +10,14 @@ use chip::{Chip, Lit, ScanAnswer};
 use word::Command;
 
 // A scanned chain handed back, and what the scan recorded.
-#[derive(Drop)]
+#[derive(Clone, Copy)]
 pub struct Scanned {
     pub chain: Chain,
     pub answer: ScanAnswer,
 }
 
 // One chip of a chain scanned: the chain after it, the chip before it, and what the scan took.
-#[derive(Drop)]
+#[derive(Clone, Copy)]
 pub struct ChipScan {
     pub chain: Chain,
     pub before: Chip,

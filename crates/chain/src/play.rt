@@ -9,7 +9,7 @@ use crate::{Chain, HandedChain, checks};
 use base::Verdict;
 
 // Samples played up to and with a LOAD rise: the chain after them, the place past the last of them, and whether LOAD rose there.
-#[derive(Drop)]
+#[derive(Clone, Copy)]
 pub struct Stretch {
     pub chain: Chain,
     pub stop: usize,

@@ -7,27 +7,16 @@ use Rattle.base.proofs.Lists.{length_mapped, get_d_any}
 use Rattle.chip.specs.Record.{reset_chip}
 use Rattle.chain.specs.Chain.{most}
 use borrow.Author.Rules.{rules}
-use Rattle.chain.proofs.one.chip_at.Statement.{statement}
-use Rattle.chain.proofs.one.chip_at.Tie as tie
+use Rattle.chain.proofs.one.chip_at.Goals as goal
 
-returns : tie.Need-returns
-returns c =
-    let a = c.before.before.before.args in
+pub returns-then-k-lt-MOST : goal.returns-then-k-lt-MOST
+returns-then-k-lt-MOST c =
+    let a = c.args in
     let all : length a.chain.chips ≡ most = search (rules, length_mapped) in
     get_d_any a.chain.chips a.k _ reset_chip (omega arith)
 
-returns-2 : tie.Need-returns-2
-returns-2 c =
-    let a = c.before.before.before.args in
+pub returns : goal.returns
+returns c =
+    let a = c.args in
     let all : length a.chain.chips ≡ most = search (rules, length_mapped) in
-    c.reset-chip.ensures ∙ sym (get_or-eq_default a.chain.chips reset_chip (omega arith))
-
-pub chip_at_spec : {M : Type 1} → statement M
-chip_at_spec =
-    tie.close
-    (tie.spec
-    (λ c. search rules)
-    (λ c. search rules)
-    returns
-    (λ c κs. search rules)
-    returns-2)
+    c.reset_chip.ensures ∙ sym (get_or-eq_default a.chain.chips reset_chip (omega arith))

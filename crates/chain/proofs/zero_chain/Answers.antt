@@ -7,10 +7,9 @@ use Rattle.chip.specs.declared.Settings.{Settings}
 use Rattle.chip.specs.Record.{blank}
 use Rattle.chain.specs.Chain.{most}
 use borrow.Author.Rules.{rules}
-use Rattle.chain.proofs.zero_chain.Statement.{statement}
-use Rattle.chain.proofs.zero_chain.Tie as tie
+use Rattle.chain.proofs.zero_chain.Goals as goal
 
-returns : tie.Need-returns
+pub returns : goal.returns
 returns c =
     ap
     (λ (s : Settings).
@@ -25,11 +24,4 @@ returns c =
           });
       levels = 0;
     })
-    c.reset-settings.ensures
-
-pub zero_chain_spec : {M : Type 1} → statement M
-zero_chain_spec =
-    tie.close
-    (tie.spec
-    (λ c κs. search rules)
-    returns)
+    c.reset_settings.ensures

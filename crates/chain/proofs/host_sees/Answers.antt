@@ -1,0 +1,26 @@
+-- `chain::host_sees` meets its contract: a chain that passed its tests has a last chip.
+-- Assumes nothing.
+use mathlib.Core.Path.{ap, sym, ◌∙◌}
+use mathlib.Core.Bool.{Bool}
+use Rattle.base.specs.Refusals.{done, verdict_tells}
+use Rattle.base.proofs.Refusals.{by_done, by_refusal}
+use Rattle.chip.specs.Commands.{dout}
+use Rattle.chain.proofs.Tested.{tested_done, count_low}
+use borrow.Author.Rules.{rules}
+use Rattle.chain.proofs.host_sees.Goals as goal
+
+pub overflow_sub-n : goal.overflow_sub-n
+unfolding Rattle.chain.specs.Entries.seen_of
+overflow_sub-n c =
+    let a = c.args in
+    count_low a.n (tested_done a.n a.chain (sym c.tested-test.ensures ∙ ap verdict_tells c.in-Done.is)).0
+
+pub returns-in-Refused : goal.returns-in-Refused
+unfolding Rattle.chain.specs.Entries.seen_of
+returns-in-Refused c = sym (by_refusal _ _ c.tested-test.ensures c.in-Refused.is)
+
+pub returns-in-Done : goal.returns-in-Done
+unfolding Rattle.chain.specs.Entries.seen_of
+returns-in-Done c =
+    ap (λ (b : Bool). record { state = b; told = done tt }) (c.dout.ensures ∙ ap dout c.chip_at.ensures)
+    ∙ sym (by_done _ _ c.tested-test.ensures c.in-Done.is)
