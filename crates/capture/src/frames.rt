@@ -8,7 +8,7 @@ ghost use Rattle.capture.specs.Parts as P;
 use base::Verdict;
 
 // The form of a line after the first.
-#[derive(Drop)]
+#[derive(Clone, Copy)]
 pub enum Form {
     // After 01: 1 to 32 samples.
     Samples,

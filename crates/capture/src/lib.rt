@@ -13,7 +13,7 @@ ghost use Rattle.capture.specs.Replay.{Replays};
 use base::Verdict;
 
 // What is written at each LOAD rise and at each scan.
-#[derive(Drop)]
+#[derive(Clone, Copy)]
 pub enum Report {
     // 10 chip word at a rise; 11 chip code at a recorded key, or 12 in place of 11 where an unread code was overwritten.
     Words,
@@ -22,7 +22,7 @@ pub enum Report {
 }
 
 // How a text was replayed: how many bytes stand at the array's front, and whether it was taken to its end or what refused it.
-#[derive(Drop)]
+#[derive(Clone, Copy)]
 pub struct Replayed {
     pub bytes: usize,
     pub answer: Verdict,

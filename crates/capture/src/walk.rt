@@ -16,7 +16,7 @@ use chain::Chain;
 use lines::Frame;
 
 // A line: the chain after it, whether it was taken, and the place past what it wrote.
-#[derive(Drop)]
+#[derive(Clone, Copy)]
 pub struct Took {
     pub chain: Chain,
     pub taken: bool,

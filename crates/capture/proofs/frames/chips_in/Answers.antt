@@ -13,8 +13,7 @@ use Rattle.capture.specs.Frames.{first_of}
 use Rattle.capture.specs.Parts.{chips_in}
 use Rattle.capture.proofs.Firsts.{first_count, first_test, first_three}
 use borrow.Author.Rules.{rules}
-use Rattle.capture.proofs.frames.chips_in.Statement.{statement}
-use Rattle.capture.proofs.frames.chips_in.Tie as tie
+use Rattle.capture.proofs.frames.chips_in.Goals as goal
 
 -- one part of the test that fails is enough
 not_one : (a b c : Bool) → b ≡ false → (a && b && c) ≡ false
@@ -51,37 +50,22 @@ module _ (bytes : List ℕ) (three : length bytes ≡ 3) where
   some_chips : zero ≡ true → one ≡ true → counts ≡ true → get_or bytes 2 0 ≡ chips_in (first_of bytes)
   some_chips p q r = sym (ap chips_in (first_three bytes three ∙ pick_yes _ _ (ap₂ ◌&&◌ (ap₂ ◌&&◌ p q) r)))
 
-returns : tie.Need-returns
-returns c = sym (ap chips_in (first_count c.before.before.args.bytes.now c.if1.true))
+pub returns-then-bytes-ne3 : goal.returns-then-bytes-ne3
+returns-then-bytes-ne3 c = sym (ap chips_in (first_count c.args.bytes.now c.if-bytes-ne3.true))
 
-returns-2 : tie.Need-returns-2
-returns-2 c = not_zero c.before.before.before.before.args.bytes.now c.before.before.if1.false (ne_eqb _ _ c.if2.true)
+pub returns-then-bytes-ne0 : goal.returns-then-bytes-ne0
+returns-then-bytes-ne0 c = not_zero c.args.bytes.now c.if-bytes-ne3.false (ne_eqb _ _ c.if-bytes-ne0.true)
 
-returns-3 : tie.Need-returns-3
-returns-3 c = not_01 c.before.before.before.before.before.before.args.bytes.now c.before.before.before.before.if1.false (ne_eqb _ _ c.if3.true)
+pub returns-then-bytes-ne1 : goal.returns-then-bytes-ne1
+returns-then-bytes-ne1 c = not_01 c.args.bytes.now c.if-bytes-ne3.false (ne_eqb _ _ c.if-bytes-ne1.true)
 
-returns-4 : tie.Need-returns-4
-returns-4 c =
-    not_count c.before.before.before.before.before.before.before.before.before.args.bytes.now c.before.before.before.before.before.before.before.if1.false
-    (sym c.before.is-count.ensures ∙ not-true c.before.is-count.result c.if4.true)
+pub returns-then-not-is_count : goal.returns-then-not-is_count
+returns-then-not-is_count c =
+    not_count c.args.bytes.now c.if-bytes-ne3.false
+    (sym c.is_count.ensures ∙ not-true c.is_count.result c.if-not-is_count.true-raw)
 
-returns-5 : tie.Need-returns-5
-returns-5 c =
-    some_chips c.before.before.before.before.before.before.before.before.before.args.bytes.now c.before.before.before.before.before.before.before.if1.false
-    (eq-eqb _ _ c.before.before.before.before.before.if2.false) (eq-eqb _ _ c.before.before.before.if3.false)
-    (sym c.before.is-count.ensures ∙ not-false c.before.is-count.result c.if4.false)
-
-pub chips_in_spec : {M : Type 1} → statement M
-chips_in_spec =
-    tie.close
-    (tie.spec
-    returns
-    (λ c. search rules)
-    returns-2
-    (λ c. search rules)
-    returns-3
-    (λ c. search rules)
-    (λ c. search (rules, c.shared-slice-known4.given 2))
-    (λ c κs. search rules)
-    returns-4
-    returns-5)
+pub returns : goal.returns
+returns c =
+    some_chips c.args.bytes.now c.if-bytes-ne3.false
+    (eq-eqb _ _ c.if-bytes-ne0.false) (eq-eqb _ _ c.if-bytes-ne1.false)
+    (sym c.is_count.ensures ∙ not-false c.is_count.result c.if-not-is_count.false-raw)
