@@ -10,7 +10,7 @@ use crate::{Reader, looks, notes};
 use chain::Chain;
 
 // Samples that were looked at: the reader after them, how many they are, the last one's levels, and the place past their notes.
-#[derive(Drop)]
+#[derive(Clone, Copy)]
 pub(crate) struct Ahead {
     pub(crate) reader: Reader,
     pub(crate) count: usize,

@@ -13,7 +13,7 @@ use capture::Report;
 use chain::Chain;
 
 // The recorded DOUT of the last sample.
-#[derive(Drop)]
+#[derive(Clone, Copy)]
 pub enum Dout {
     // No sample with a recorded DOUT has come.
     NotYet,
@@ -26,7 +26,7 @@ pub enum Dout {
 // What is kept from one sample to the next: the last sample's recorded DOUT and its offset; a readout's bits so far behind a leading 1, or 0
 // where it was told as cut; whether DOUT was high when last looked at outside readouts; and whether it was the latch when last looked at
 // with KEYB off.
-#[derive(Drop)]
+#[derive(Clone, Copy)]
 pub struct Reader {
     pub dout: Dout,
     pub offset: u64,
@@ -36,7 +36,7 @@ pub struct Reader {
 }
 
 // What a look tells.
-#[derive(Drop)]
+#[derive(Clone, Copy)]
 pub enum Note {
     Nothing,
     // A readout ended: the code.
@@ -50,14 +50,14 @@ pub enum Note {
 }
 
 // The reader after a look, and what the look tells.
-#[derive(Drop)]
+#[derive(Clone, Copy)]
 pub struct Looked {
     pub reader: Reader,
     pub note: Note,
 }
 
 // Samples that were played: the chain and the reader after them, how many there were, and the place past what they wrote.
-#[derive(Drop)]
+#[derive(Clone, Copy)]
 pub struct Ran {
     pub chain: Chain,
     pub reader: Reader,

@@ -16,7 +16,7 @@ use base::{Refusal, Verdict};
 
 // What is counted of one chip: codes recorded; read words that found an interrupt; codes recorded over an unread one; interrupts
 // cleared by reset or by KEYB 0.
-#[derive(Drop)]
+#[derive(Clone, Copy)]
 pub struct Counts {
     pub recorded: u64,
     pub read: u64,
@@ -25,7 +25,7 @@ pub struct Counts {
 }
 
 // The counts of each chip, how many times each code was recorded on all chips, and the largest N of the captures counted, 0 at the start.
-#[derive(Drop)]
+#[derive(Clone, Copy)]
 pub struct Tally {
     pub chips: [Counts; chain::MOST],
     pub codes: [u64; 128],
@@ -33,7 +33,7 @@ pub struct Tally {
 }
 
 // A tally handed back, and whether the capture was taken to its end or what refused it.
-#[derive(Drop)]
+#[derive(Clone, Copy)]
 pub struct Counted {
     pub tally: Tally,
     pub answer: Verdict,

@@ -17,14 +17,14 @@ use chain::Chain;
 use lines::Frame;
 
 // The chain and the tally that a line finds and leaves.
-#[derive(Drop)]
+#[derive(Clone, Copy)]
 pub(crate) struct Counting {
     pub(crate) chain: Chain,
     pub(crate) tally: Tally,
 }
 
 // What a line leaves, and whether it was taken or what refused it.
-#[derive(Drop)]
+#[derive(Clone, Copy)]
 pub(crate) struct Took {
     pub(crate) state: Counting,
     pub(crate) answer: Verdict,

@@ -7,7 +7,7 @@ ghost use Rattle.wires.specs.Parts as P;
 use base::Verdict;
 
 // What the first line says: the key's code and the digits at power-on; zeros, where it isn't of its form.
-#[derive(Drop)]
+#[derive(Clone, Copy)]
 pub(crate) struct First {
     pub(crate) good: bool,
     pub(crate) key: u8,

@@ -11,7 +11,7 @@ ghost use Rattle.wires.specs.Replay.{Replays};
 use capture::Replayed;
 
 // What is written at each obeyed command.
-#[derive(Drop)]
+#[derive(Clone, Copy)]
 pub enum Report {
     // 42, byte 1, byte 2; and 43, code after it where the key is read.
     Commands,

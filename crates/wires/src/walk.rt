@@ -16,7 +16,7 @@ use ch450::Panel;
 use lines::Frame;
 
 // A line: the panel after it, whether it was taken, and the place past what it wrote.
-#[derive(Drop)]
+#[derive(Clone, Copy)]
 pub(crate) struct Took {
     pub(crate) panel: Panel,
     pub(crate) taken: bool,

@@ -14,7 +14,7 @@ use base::{Refusal, Verdict};
 use word::{Command, Decoded};
 
 // How many samples were written, or why none were.
-#[derive(Drop)]
+#[derive(Clone, Copy)]
 pub enum Written {
     Samples(usize),
     Refused(Refusal),

@@ -7,7 +7,7 @@ ghost use Rattle.writer.specs.Lights as L;
 use word::{Command, Decoded};
 
 // What a command says of its chip's display and keypad.
-#[derive(Drop)]
+#[derive(Clone, Copy)]
 pub(crate) enum Lights {
     // Both off: a reset, or system parameters with KEYB 0 and DISP 0.
     Off,

@@ -13,16 +13,6 @@ use Rattle.ch450.proofs.writer.write_command.Goals as goal
 within : {n : ℕ} (k : ℕ) → n ≡ 40 → T (leb k 40) → k ≤ n
 within k e t = subst (λ m. k ≤ m) (sym e) (leb→le k 40 t)
 
--- UNKNOWN slice-bounds-write-byte-end
--- part-write-byte-end : tie.Need-slice-bounds-write-byte-end
--- part-write-byte-end c = within 19 (length-set c.before.before.args.out.now 0 1 ∙ c.before.before.requires) tt
-
--- UNKNOWN slice-bounds-write-byte-end-2
--- part-write-byte-end-2 : tie.Need-slice-bounds-write-byte-end-2
--- part-write-byte-end-2 c =
---     let s = c.before.before.before.before.before.before.before in
---     within 37 (c.before.before.out.given.1 ∙ length-set s.args.out.now 0 1 ∙ s.requires) tt
-
 pub bounds-out-37 : goal.bounds-out-37
 bounds-out-37 c =
     let o = c in

@@ -14,10 +14,6 @@ use Rattle.ch450.proofs.writer.write_commands.Goals as goal
 pub loop-k-init : goal.loop-k-init
 loop-k-init c = (search rules, fills_start 0 (written c.args.words.now) c.args.out.now)
 
--- UNKNOWN slice-bounds-write-command-end
--- part-write-command-end : tie.Need-slice-bounds-write-command-end invariant-loop decreases-loop
--- part-write-command-end c = omega (arith, c.before.before.loop.invariant.1.size)
-
 pub loop-k-preserved : goal.loop-k-preserved
 loop-k-preserved c =
     let l = c.loop-k in

@@ -1,0 +1,69 @@
+-- `reads::ahead::look_ahead` meets its contract. The invariant: what was looked at is as it should be for any chain whose last chip and levels
+-- these are.
+-- Assumes nothing.
+use Rattle.std.proofs.Common.{◌≡◌, ◌-◌, ◌^◌, ◌<◌, T, length, sym, refl, ap, ◌∙◌, subst, arith, rules}
+use Rattle.base.proofs.Lists.{length_mapped}
+use Rattle.chain.specs.declared.Chain.{Chain}
+use Rattle.chain.specs.Chain.{most}
+use Rattle.chain.proofs.Tested.{count_high, count_low}
+use Rattle.reads.specs.Parts.{known_after}
+use Rattle.reads.specs.Reads.{last_chip}
+use Rattle.reads.specs.Till.{keypad_on}
+use Rattle.reads.proofs.Watching.{Watching, watching_start, watching_size, watching_room, watching_more, no_end}
+use Rattle.reads.proofs.ahead.look_ahead.Goals as goal
+use Rattle.reads.proofs.ahead.look_ahead.Lts as lts
+
+-- of the chain that was handed over
+watching : (k : lts.At-loop invariant-loop decreases-loop)
+    → (let a = k.before.before.before.before.args in
+    let l = k.loop in
+    Watching a.n a.offset a.bytes.now a.chain a.reader a.at a.out.now l.last (record { reader = l.seen; count = l.i; levels = l.was; at = l.end }) l.known l.out)
+watching k =
+    let a = k.before.before.before.before.args in
+    let all : length a.chain.chips ≡ most = search (rules, length_mapped) in
+    k.loop.invariant a.chain all k.before.chip-at.ensures refl
+
+low : (k : lts.At-loop invariant-loop decreases-loop) → k.before.before.before.before.args.offset < 2 ^ 64
+low k = search rules
+
+pub overflow_sub-k : goal.overflow_sub-k
+overflow_sub-k c = search (rules, count_low c.args.n (subst T (sym c.requires.n_value) tt))
+
+pub loop-i-init : goal.loop-i-init
+loop-i-init c = λ ch long last was.
+    let a = c.args in
+    subst (λ levels. Watching a.n a.offset a.bytes.now ch a.reader a.at a.out.now c.chip_at-last.result (record { reader = a.reader; count = 0; levels = levels; at = a.at }) 12 a.out.now) (sym was)
+    (watching_start a.n a.offset a.bytes.now ch a.reader a.at a.out.now long last)
+
+pub shape_of-out-then-is_end : goal.shape_of-out-then-is_end
+shape_of-out-then-is_end c = watching_size c.requires.n_value c.requires.bytes_in_bounds (watching c)
+
+pub returns-then-is_end : goal.returns-then-is_end
+returns-then-is_end c = (watching c).looks
+
+pub overflow_cast-k : goal.overflow_cast-k
+overflow_cast-k c = search (rules, count_high c.args.n (subst T (sym c.requires.n_value) tt))
+
+pub put-end-requires : goal.put-end-requires
+put-end-requires c = omega (arith, watching_room c.requires.n_value c.requires.bytes_in_bounds (watching c) c.loop-i-test.true)
+
+pub overflow_add-i : goal.overflow_add-i
+overflow_add-i c = search (rules, c.loop-i-test.true, c.well_formed.1.1.1.1.0)
+
+pub loop-i-smaller : goal.loop-i-smaller
+loop-i-smaller c = omega (arith, c.loop-i-test.true)
+
+pub loop-i-preserved : goal.loop-i-preserved
+loop-i-preserved c = λ ch long last was.
+    let a = c.args in
+    let l = c.loop-i in
+    let on = no_end l.known _ (sym c.is_end.ensures ∙ c.if-is_end.false) in
+    watching_more c.requires.n_value c.requires.bytes_in_bounds (l.invariant ch long last was) (low c) c.loop-i-test.true on.0 on.1
+    c.look-looked.ensures c.put-end.ensures c.wrapping_add_u64-place.ensures c.kept-seen.ensures
+    (c.known_after-known.ensures ∙ ap (λ rises. known_after (keypad_on l.last) rises l.known) c.dclk_rises-rises.ensures) c.stepped-last.ensures
+
+pub shape_of-out : goal.shape_of-out
+shape_of-out c = watching_size c.requires.n_value c.requires.bytes_in_bounds (watching c)
+
+pub returns : goal.returns
+returns c = (watching c).looks

@@ -1,0 +1,18 @@
+-- `tallies::printed::code_lines` meets its contract. The invariant: the lines of the codes left, put where the loop stands, make the
+-- whole.
+-- Assumes nothing.
+use mathlib.Core.Path.{◌≡◌, refl}
+use Prim.Native.Nat.{◌-◌}
+use native.Mathlib.Omega.{arith}
+use lib.ListN.{length}
+use Rattle.base.proofs.Lent.{Fills, fills_start}
+use Rattle.tallies.specs.Printed.{code_line}
+use Rattle.lines.proofs.Each.{lines_left, left_room, left_more, left_over}
+use borrow.Author.Rules.{rules}
+use Rattle.tallies.proofs.printed.code_lines.Given as goal
+
+abbrev pub invariant-loop-i : goal.invariant-loop-i
+invariant-loop-i l = (length l.codes ≡ 128) × Fills l.at (lines_left code_line l.codes 0) l.initial.out l.end (lines_left code_line l.codes l.i) l.out
+
+abbrev pub decreases-loop-i : goal.decreases-loop-i
+decreases-loop-i l = 128 - l.i

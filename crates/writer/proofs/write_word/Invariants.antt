@@ -1,0 +1,17 @@
+-- `writer::write_word` meets its contract. The invariant: the samples written so far, and those of the bits left, are the word's.
+-- Assumes nothing.
+use mathlib.Core.Path.{◌≡◌, refl, ap, sym, ◌∙◌}
+use mathlib.Core.List.{◌++◌}
+use Prim.Native.Nat.{ℕ, ◌+◌, ◌-◌, ◌*◌, ◌≤◌}
+use native.Mathlib.Omega.{arith}
+use lib.ListN.{length, set, take, drop, length-set}
+use Rattle.writer.specs.Rows.{word_bits, clocking}
+use Rattle.writer.proofs.Filling.{word_more, word_over}
+use borrow.Author.Rules.{rules}
+use Rattle.writer.proofs.write_word.Given as goal
+
+abbrev pub invariant-loop-at : goal.invariant-loop-at
+invariant-loop-at l = (l.at ≤ 12) × (length l.out ≡ 24) × (take (l.at * 2) l.out ++ clocking 4 (drop l.at (word_bits l.w)) ≡ clocking 4 (word_bits l.w))
+
+abbrev pub decreases-loop-at : goal.decreases-loop-at
+decreases-loop-at l = 12 - l.at
