@@ -17,7 +17,7 @@ use capture::Replayed;
 use word::{Display, System};
 
 // The settings of one chip that are kept: the sleeping mark isn't.
-#[derive(Drop)]
+#[derive(Clone, Copy)]
 pub struct Kept {
     pub system: System,
     pub display: Display,
@@ -26,14 +26,14 @@ pub struct Kept {
 }
 
 // Those of a panel of n chips; those from n on are not looked at.
-#[derive(Drop)]
+#[derive(Clone, Copy)]
 pub struct Kiosk {
     pub n: usize,
     pub chips: [Kept; chain::MOST],
 }
 
 // A part of a chip's settings, each with its own row.
-#[derive(Drop)]
+#[derive(Clone, Copy)]
 pub enum Part {
     System,
     Display,
@@ -42,14 +42,14 @@ pub enum Part {
 }
 
 // Settings handed back, zeros where they are refused, and whether the text was taken or what refused it.
-#[derive(Drop)]
+#[derive(Clone, Copy)]
 pub struct KioskRead {
     pub kiosk: Kiosk,
     pub answer: Verdict,
 }
 
 // How many bytes or words stand at a buffer's front, or why none do.
-#[derive(Drop)]
+#[derive(Clone, Copy)]
 pub enum Put {
     Count(usize),
     Refused(Refusal),

@@ -3,14 +3,6 @@
 use Rattle.std.proofs.Common.{◌+◌, ◌-◌, ◌^◌, ◌<◌, ◌≤◌, length, ap, arith, length-drop, rules}
 use Rattle.reads.proofs.Sampling.{rest_all, Playing, playing_start, playing_size, playing_room, playing_some, playing_over}
 use Rattle.reads.proofs.played.Goals as goal
-use Rattle.reads.proofs.played.Lts as lts
-
-low : (k : lts.At-loop invariant-loop decreases-loop) → k.before.before.before.args.offset < 2 ^ 64
-low k = search rules
-
--- as many as there are at most
-within : (c : lts.After-struct_known invariant-loop decreases-loop) → c.loop-i.i + c.some-ran.result.count ≤ length c.args.bytes.now
-within c = omega (arith, ap length (rest_all c.loop-i.i c.args.bytes.now), length-drop c.loop-i.i c.args.bytes.now, c.some-ran.ensures.within, c.loop-i-test.true)
 
 pub loop-i-init : goal.loop-i-init
 loop-i-init c =
@@ -24,7 +16,10 @@ some-ran-requires c =
     let l = c.loop-i in record { n_value = p.n_value; in_bounds = omega (arith, ap length (rest_all l.i a.bytes.now), length-drop l.i a.bytes.now, c.loop-i-test.true); bytes_in_bounds = omega (arith, playing_room a.what a.n p.n_value p.bytes_in_bounds l.invariant, ap length (rest_all l.i a.bytes.now)) }
 
 pub overflow_add-i : goal.overflow_add-i
-overflow_add-i c = search (rules, within c, c.well_formed.1.1.1.1.1.0)
+overflow_add-i c =
+    let within : c.loop-i.i + c.some-ran.result.count ≤ length c.args.bytes.now =
+        omega (arith, ap length (rest_all c.loop-i.i c.args.bytes.now), length-drop c.loop-i.i c.args.bytes.now, c.some-ran.ensures.within, c.loop-i-test.true) in
+    search (rules, within, c.well_formed.1.1.1.1.1.0)
 
 pub loop-i-smaller : goal.loop-i-smaller
 loop-i-smaller c = omega (arith, c.some-ran.ensures.some, c.loop-i-test.true)
@@ -33,7 +28,8 @@ pub loop-i-preserved : goal.loop-i-preserved
 loop-i-preserved c =
     let a = c.args in
     let p = c.requires in
-    playing_some a.what a.n p.n_value p.bytes_in_bounds c.loop-i.invariant (low c) c.wrapping_add_u64-place.ensures c.some-ran.ensures
+    let low : a.offset < 2 ^ 64 = search rules in
+    playing_some a.what a.n p.n_value p.bytes_in_bounds c.loop-i.invariant low c.wrapping_add_u64-place.ensures.value c.some-ran.ensures
 
 pub shape_of-out : goal.shape_of-out
 shape_of-out c =

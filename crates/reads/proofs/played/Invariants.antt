@@ -6,7 +6,7 @@ use Rattle.reads.proofs.played.Given as goal
 
 abbrev pub invariant-loop-i : goal.invariant-loop-i
 invariant-loop-i l =
-    Playing l.what l.n l.offset l.bytes l.initial.next l.initial.seen l.initial.end l.initial.out (record { chain = l.next; reader = l.seen; count = l.i; l.at = l.end }) l.out
+    Playing l.what l.n l.offset l.bytes l.initial.next l.initial.seen l.initial.end l.initial.out (record { chain = l.next; reader = l.seen; count = l.i; at = l.end }) l.out
 
 abbrev pub decreases-loop-i : goal.decreases-loop-i
 decreases-loop-i l = length l.bytes - l.i

@@ -19,8 +19,10 @@ slice_bounds-played-end c =
 pub played-requires : goal.played-requires
 played-requires c =
     let a = c.args in
-    first_fits a.what a.n a.offset a.bytes.now a.chain a.reader a.at a.out.now c.run_length-count.ensures
-    (sym c.has_room.ensures ∙ not-false c.has_room.result c.if-not-has_room.false-raw)
+    let p =
+        first_fits a.what a.n a.offset a.bytes.now a.chain a.reader a.at a.out.now c.run_length-count.ensures
+        (sym c.has_room.ensures ∙ not-false c.has_room.result c.if-not-has_room.false-raw) in
+    record { n_value = p.0; bytes_in_bounds = p.1 }
 
 pub returns : goal.returns
 returns c =

@@ -16,7 +16,7 @@ pub returns-then-count-eq0 : goal.returns-then-count-eq0
 returns-then-count-eq0 c = one_alone c.look_ahead-ahead.ensures c.args.what c.requires.in_bounds c.if-count-eq0.true c.sampled.ensures
 
 pub shape_of-out-then-count-eq0 : goal.shape_of-out-then-count-eq0
-shape_of-out-then-count-eq0 c = some_size c.requires.n_value c.requires.bytes_in_bounds (alone c)
+shape_of-out-then-count-eq0 c = some_size c.requires.n_value c.requires.bytes_in_bounds (returns-then-count-eq0 c)
 
 pub slice_bounds-to_next_rise-end : goal.slice_bounds-to_next_rise-end
 slice_bounds-to_next_rise-end c =
@@ -29,4 +29,4 @@ returns c =
     ahead_some ahead c.args.what (omega (arith, c.if-count-eq0.false)) c.to_next_rise-part.ensures
 
 pub shape_of-out : goal.shape_of-out
-shape_of-out c = some_size c.requires.n_value c.requires.bytes_in_bounds (played c)
+shape_of-out c = some_size c.requires.n_value c.requires.bytes_in_bounds (returns c)

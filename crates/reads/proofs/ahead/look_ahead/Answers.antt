@@ -11,20 +11,6 @@ use Rattle.reads.specs.Reads.{last_chip}
 use Rattle.reads.specs.Till.{keypad_on}
 use Rattle.reads.proofs.Watching.{Watching, watching_start, watching_size, watching_room, watching_more, no_end}
 use Rattle.reads.proofs.ahead.look_ahead.Goals as goal
-use Rattle.reads.proofs.ahead.look_ahead.Lts as lts
-
--- of the chain that was handed over
-watching : (k : lts.At-loop invariant-loop decreases-loop)
-    → (let a = k.before.before.before.before.args in
-    let l = k.loop in
-    Watching a.n a.offset a.bytes.now a.chain a.reader a.at a.out.now l.last (record { reader = l.seen; count = l.i; levels = l.was; at = l.end }) l.known l.out)
-watching k =
-    let a = k.before.before.before.before.args in
-    let all : length a.chain.chips ≡ most = search (rules, length_mapped) in
-    k.loop.invariant a.chain all k.before.chip-at.ensures refl
-
-low : (k : lts.At-loop invariant-loop decreases-loop) → k.before.before.before.before.args.offset < 2 ^ 64
-low k = search rules
 
 pub overflow_sub-k : goal.overflow_sub-k
 overflow_sub-k c = search (rules, count_low c.args.n (subst T (sym c.requires.n_value) tt))
@@ -36,16 +22,16 @@ loop-i-init c = λ ch long last was.
     (watching_start a.n a.offset a.bytes.now ch a.reader a.at a.out.now long last)
 
 pub shape_of-out-then-is_end : goal.shape_of-out-then-is_end
-shape_of-out-then-is_end c = watching_size c.requires.n_value c.requires.bytes_in_bounds (watching c)
+shape_of-out-then-is_end c = watching_size c.requires.n_value c.requires.bytes_in_bounds (c.loop-i.invariant c.args.chain (search (rules, length_mapped)) c.chip_at-last.ensures refl)
 
 pub returns-then-is_end : goal.returns-then-is_end
-returns-then-is_end c = (watching c).looks
+returns-then-is_end c = (c.loop-i.invariant c.args.chain (search (rules, length_mapped)) c.chip_at-last.ensures refl).looks
 
 pub overflow_cast-k : goal.overflow_cast-k
 overflow_cast-k c = search (rules, count_high c.args.n (subst T (sym c.requires.n_value) tt))
 
 pub put-end-requires : goal.put-end-requires
-put-end-requires c = omega (arith, watching_room c.requires.n_value c.requires.bytes_in_bounds (watching c) c.loop-i-test.true)
+put-end-requires c = omega (arith, watching_room c.requires.n_value c.requires.bytes_in_bounds (c.loop-i.invariant c.args.chain (search (rules, length_mapped)) c.chip_at-last.ensures refl) c.loop-i-test.true)
 
 pub overflow_add-i : goal.overflow_add-i
 overflow_add-i c = search (rules, c.loop-i-test.true, c.well_formed.1.1.1.1.0)
@@ -57,13 +43,14 @@ pub loop-i-preserved : goal.loop-i-preserved
 loop-i-preserved c = λ ch long last was.
     let a = c.args in
     let l = c.loop-i in
+    let low : a.offset < 2 ^ 64 = search rules in
     let on = no_end l.known _ (sym c.is_end.ensures ∙ c.if-is_end.false) in
-    watching_more c.requires.n_value c.requires.bytes_in_bounds (l.invariant ch long last was) (low c) c.loop-i-test.true on.0 on.1
-    c.look-looked.ensures c.put-end.ensures c.wrapping_add_u64-place.ensures c.kept-seen.ensures
+    watching_more c.requires.n_value c.requires.bytes_in_bounds (l.invariant ch long last was) low c.loop-i-test.true on.0 on.1
+    c.look-looked.ensures c.put-end.ensures c.wrapping_add_u64-place.ensures.value c.kept-seen.ensures
     (c.known_after-known.ensures ∙ ap (λ rises. known_after (keypad_on l.last) rises l.known) c.dclk_rises-rises.ensures) c.stepped-last.ensures
 
 pub shape_of-out : goal.shape_of-out
-shape_of-out c = watching_size c.requires.n_value c.requires.bytes_in_bounds (watching c)
+shape_of-out c = watching_size c.requires.n_value c.requires.bytes_in_bounds (c.loop-i.invariant c.args.chain (search (rules, length_mapped)) c.chip_at-last.ensures refl)
 
 pub returns : goal.returns
-returns c = (watching c).looks
+returns c = (c.loop-i.invariant c.args.chain (search (rules, length_mapped)) c.chip_at-last.ensures refl).looks
