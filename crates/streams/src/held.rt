@@ -6,7 +6,7 @@ ghost use Rattle.streams.specs.Held.{none_held, too_long, grown_by, line_held};
 use lines::Frame;
 
 // The characters of a line, or the bytes of an item: the first `count` of the array. 67 stands for more than any line has.
-#[derive(Drop)]
+#[derive(Clone, Copy)]
 pub struct Held {
     pub bytes: [u8; 66],
     pub count: usize,

@@ -19,7 +19,7 @@ use held::Held;
 use reads::Reader;
 
 // What a stream is.
-#[derive(Drop)]
+#[derive(Clone, Copy)]
 pub enum Kind {
     // Its first byte hasn't come.
     Unknown,
@@ -31,7 +31,7 @@ pub enum Kind {
 
 // How far a stream has come: N, or 0 before it is known; the chain; the line's number in a text, or the next byte's offset in a raw
 // stream; what is held of a line, or of the first three bytes or a scan; and the reader of the last chip's recorded DOUT.
-#[derive(Drop)]
+#[derive(Clone, Copy)]
 pub struct State {
     pub n: usize,
     pub chain: Chain,
@@ -41,7 +41,7 @@ pub struct State {
 }
 
 // A stream, at any place.
-#[derive(Drop)]
+#[derive(Clone, Copy)]
 pub struct Stream {
     pub kind: Kind,
     pub state: State,
@@ -49,7 +49,7 @@ pub struct Stream {
 
 // A block was taken: the stream after it, how many of its bytes were passed (all, or the first 4,096, also where the stream is refused), and
 // how many bytes they wrote.
-#[derive(Drop)]
+#[derive(Clone, Copy)]
 pub struct Fed {
     pub stream: Stream,
     pub passed: usize,
@@ -57,7 +57,7 @@ pub struct Fed {
 }
 
 // A step of a stream: the state after it, whether it was refused, and the place past what it wrote.
-#[derive(Drop)]
+#[derive(Clone, Copy)]
 pub(crate) struct Step {
     pub(crate) state: State,
     pub(crate) over: bool,
@@ -65,7 +65,7 @@ pub(crate) struct Step {
 }
 
 // The stream after a block, and how many bytes the block wrote.
-#[derive(Drop)]
+#[derive(Clone, Copy)]
 pub(crate) struct Output {
     pub(crate) stream: Stream,
     pub(crate) bytes: usize,

@@ -64,7 +64,7 @@ fn played(what: Report, state: State, levels: &[u8], out: &mut [u8], at: usize) 
 }
 
 // A run of samples that was played: the step, and how many there were.
-#[derive(Drop)]
+#[derive(Clone, Copy)]
 pub(crate) struct Ran {
     pub(crate) step: Step,
     pub(crate) count: usize,

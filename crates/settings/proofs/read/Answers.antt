@@ -19,7 +19,7 @@ returns-then-version-gt-NEWEST c =
 
 pub returns : goal.returns
 unfolding read_of
-returns-then-version-gt-NEWEST c =
+returns c =
     let v = c.version_of-version in
     c.lines.ensures
     ∙ sym (pick_no _ _ (le-ltb newest (version_in c.args.text.now) (omega (arith, v.ensures, c.if-version-gt-NEWEST.false))))

@@ -18,6 +18,6 @@ pub returns-then-bytes-k : goal.returns-then-bytes-k
 returns-then-bytes-k c = sym (chip_place c.args.k c.args.bytes.now c.if-bytes-ne6.false c.if-bytes-ne33.false c.if-bytes-k.true)
 
 pub returns : goal.returns
-returns-then-bytes-ne6 c =
+returns c =
     c.is_in_fields.ensures
     ∙ sym (chip_so c.args.k c.args.bytes.now c.if-bytes-ne6.false c.if-bytes-ne33.false c.if-bytes-k.false)

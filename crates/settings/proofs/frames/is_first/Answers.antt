@@ -22,6 +22,6 @@ returns-then-not-is_count c =
     sym (first_count c.args.bytes.now c.if-bytes-ne3.false c.if-bytes-ne32.false (sym c.is_count.ensures ∙ not-true c.is_count.result c.if-not-is_count.true-raw))
 
 pub returns : goal.returns
-returns-then-bytes-ne3 c =
+returns c =
     ap (λ v. eqb (get_or c.args.bytes.now 1 0) v) c.version_for.ensures
     ∙ sym (first_so c.args.bytes.now c.if-bytes-ne3.false c.if-bytes-ne32.false (sym c.is_count.ensures ∙ not-false c.is_count.result c.if-not-is_count.false-raw))

@@ -21,6 +21,6 @@ returns-then-display-gt15 c =
     sym (fields_display a.system a.display a.custom (sym c.field.ensures ∙ c.if-field-ne0.false) (λ e. c.if-field-eq1.false (c.field-2.ensures ∙ e)) c.if-display-gt15.true)
 
 pub returns : goal.returns
-returns-then-field-ne0 c =
+returns c =
     let a = c.args in
     sym (fields_so a.system a.display a.custom (sym c.field.ensures ∙ c.if-field-ne0.false) (λ e. c.if-field-eq1.false (c.field-2.ensures ∙ e)) c.if-display-gt15.false)

@@ -17,4 +17,4 @@ pub returns-then-bytes-ne32 : goal.returns-then-bytes-ne32
 returns-then-bytes-ne32 c = sym (version_other c.args.text.now c.frame_of-frame.result c.frame_of-frame.ensures c.if-bytes-ne32.true)
 
 pub returns : goal.returns
-returns-then-text-lt4 c = sym (version_so c.args.text.now c.frame_of-frame.result c.frame_of-frame.ensures c.if-bytes-ne32.false)
+returns c = sym (version_so c.args.text.now c.frame_of-frame.result c.frame_of-frame.ensures c.if-bytes-ne32.false)

@@ -9,4 +9,4 @@ pub returns-then-left-lt32 : goal.returns-then-left-lt32
 returns-then-left-lt32 c = sym (pick_yes _ _ (lt-ltb c.args.left 32 c.if-left-lt32.true))
 
 pub returns : goal.returns
-returns-then-left-lt32 c = sym (pick_no _ _ (le-ltb c.args.left 32 c.if-left-lt32.false))
+returns c = sym (pick_no _ _ (le-ltb c.args.left 32 c.if-left-lt32.false))

@@ -37,7 +37,7 @@ loop-k-preserved c =
     (l.invariant.0, every_step legal_kept (take a.n a.chips) l.k _ at.0 (ap legal_kept at.1 ∙ sym e.ensures ∙ not-false e.result c.if-not-is_legal.false-raw) ∙ l.invariant.1)
 
 pub returns : goal.returns
-returns-then-not-is_legal c =
+returns c =
     let l = c.loop-k in
     let a = c.args in
     sym (every_over legal_kept (take a.n a.chips) l.k (front_few a.n a.chips l.k c.loop-k-test.false)) ∙ l.invariant.1

@@ -37,7 +37,7 @@ returns-then-not-is_legal-3 c =
     sym (ap₂ (λ a b. a && b && legal (command_for Parts.Custom k)) (ap₂ ◌&&◌ s d) e)
 
 pub returns : goal.returns
-returns-then-not-is_legal c =
+returns c =
     let k = c.args.c in
     let l = c.is_legal-3 in
     let m = c.is_legal-2 in

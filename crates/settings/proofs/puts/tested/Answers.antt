@@ -28,7 +28,7 @@ returns-then-not-all_legal c =
 
 pub returns : goal.returns
 unfolding settings_test
-returns-then-not-is_count c =
+returns c =
     let t = c.is_count in
     let l = c.all_legal in
     sym (pick_yes _ _ (sym t.ensures ∙ not-false t.result c.if-not-is_count.false-raw) ∙ pick_yes _ _ (sym l.ensures ∙ not-false l.result c.if-not-all_legal.false-raw))

@@ -41,7 +41,7 @@ row-blink-requires c =
     record { n_le_most = few; chips_value = passed.legal; n_in_bounds = third_fits a.kiosk.n (kept_in a.kiosk) all a.words.now room c.row-system.ensures c.row-display.ensures }
 
 pub row-requires : goal.row-requires
-row-system-requires c =
+row-requires c =
     let a = c.args in
     let passed = passes a.kiosk c.requires.kiosk_value in
     let few = (count_within a.kiosk.n passed.chips).few in

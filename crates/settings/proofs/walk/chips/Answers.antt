@@ -77,4 +77,4 @@ pub returns-then-place-text : goal.returns-then-place-text
 returns-then-place-text c = c.refused-then-place-text.ensures ∙ ap (kiosk_by c.args.n) (left_extra c.loop-k.invariant c.loop-k-test.false c.if-place-text.true)
 
 pub returns : goal.returns
-returns-then-end-text c = ap (kiosk_by c.args.n) (left_over c.loop-k.invariant c.loop-k-test.false c.if-place-text.false)
+returns c = ap (kiosk_by c.args.n) (left_over c.loop-k.invariant c.loop-k-test.false c.if-place-text.false)

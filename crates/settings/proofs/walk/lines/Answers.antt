@@ -43,7 +43,7 @@ chips-requires c =
     record { n_le_most = few; from_in_bounds = omega arith }
 
 pub returns : goal.returns
-returns-then-end-text c =
+returns c =
     c.chips.ensures
     ∙ lines_first c.args.text.now c.line_end-end.result c.line_end-end.ensures c.if-end-text.false c.frame_of-frame.result c.frame_of-frame.ensures
     (sym c.is_first.ensures ∙ not-false c.is_first.result c.if-not-is_first.false-raw) refl
