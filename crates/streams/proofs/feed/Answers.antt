@@ -21,4 +21,5 @@ pub returns : goal.returns
 returns c =
     let a = c.args in
     let all : length a.out.now ≡ 777920 = search rules in
-    feeds_so c.taken-passed.ensures (omega arith) c.block-written.ensures
+    let so = feeds_so c.taken-passed.ensures (omega arith) c.block-written.ensures in
+    record { feeds = so.0; counts = so.1 }

@@ -31,4 +31,4 @@ returns c =
     let begun = ap (λ o. o.state) (c.start-begun.ensures ∙ start_done a.b (subst T (sym good) tt)) in
     step_as (head_count a.state a.b c.if-held-lt2.false good)
     (nothing_written a.at a.out.now
-    (λ i. record { n = a.b; chain = begun i; place = c.wrapping_add_u64.ensures i; held = c.none.ensures i; reader = c.start.ensures i }))
+    (λ i. record { n = a.b; chain = begun i; place = c.wrapping_add_u64.ensures.value i; held = c.none.ensures i; reader = c.start.ensures i }))

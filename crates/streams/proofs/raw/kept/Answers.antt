@@ -8,4 +8,4 @@ pub returns : goal.returns
 unfolding grown_by
 returns c =
     let s = c.args.state in
-    ap₂ (λ place held. record { n = s.n; chain = s.chain; place = place; held = held; reader = s.reader }) c.wrapping_add_u64.ensures c.grown.ensures
+    ap₂ (λ place held. record { n = s.n; chain = s.chain; place = place; held = held; reader = s.reader }) c.wrapping_add_u64.ensures.value c.grown.ensures

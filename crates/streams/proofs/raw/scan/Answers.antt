@@ -7,4 +7,4 @@ use Rattle.streams.proofs.raw.scan.Goals as goal
 pub returns : goal.returns
 returns c =
     let a = c.args in
-    scan_made a.what a.state _ _ c.requires c.scan-took.ensures c.wrapping_add_u64.ensures c.none.ensures
+    scan_made a.what a.state _ _ c.requires c.scan-took.ensures c.wrapping_add_u64.ensures.value c.none.ensures

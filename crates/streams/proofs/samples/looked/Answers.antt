@@ -8,4 +8,4 @@ pub returns : goal.returns
 returns c =
     let a = c.args in
     let p = c.requires in
-    looked_run a.what a.state a.bytes.now a.at a.out.now p.n_value p.bound p.bytes_in_bounds c.samples-ran.ensures c.wrapping_add_u64.ensures c.none.ensures
+    looked_run a.what a.state a.bytes.now a.at a.out.now p.n_value p.bound p.bytes_in_bounds c.samples-ran.ensures c.wrapping_add_u64.ensures.value c.none.ensures

@@ -8,4 +8,4 @@ pub returns : goal.returns
 returns c =
     let a = c.args in
     let p = c.requires in
-    samples_made a.what a.state a.levels.now p.n_value p.all_below p.dout_value p.levels_in_bounds c.samples-took.ensures c.wrapping_add_u64.ensures c.none.ensures
+    samples_made a.what a.state a.levels.now p.n_value p.all_below p.dout_value p.levels_in_bounds c.samples-took.ensures c.wrapping_add_u64.ensures.value c.none.ensures

@@ -14,7 +14,8 @@ pub looked-requires : goal.looked-requires
 looked-requires c =
     let a = c.args in
     let p = c.requires in
-    (p.n_value, rest_run a.bytes.now a.from a.at a.out.now p.bound p.bytes_in_bounds)
+    let r = rest_run a.bytes.now a.from a.at a.out.now p.bound p.bytes_in_bounds in
+    record { n_value = p.n_value; bound = r.0; bytes_in_bounds = r.1 }
 
 pub returns-then-is_looking : goal.returns-then-is_looking
 returns-then-is_looking c =
@@ -31,7 +32,8 @@ pub looked-requires-then-end-from : goal.looked-requires-then-end-from
 looked-requires-then-end-from c =
     let a = c.args in
     let p = c.requires in
-    (p.n_value, rest_run a.bytes.now a.from a.at a.out.now p.bound p.bytes_in_bounds)
+    let r = rest_run a.bytes.now a.from a.at a.out.now p.bound p.bytes_in_bounds in
+    record { n_value = p.n_value; bound = r.0; bytes_in_bounds = r.1 }
 
 pub returns-then-end-from : goal.returns-then-end-from
 returns-then-end-from c =
