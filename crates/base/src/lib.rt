@@ -1,5 +1,7 @@
 // The ground floor: the refusals that document 01 numbers, with number and place of each, and the one leaf that cuts fields of
 // numbers by shifts and masks. The functions are inner ones, for the other crates; users have no entry here. Nothing here has a `requires`.
+#![tactic(auto)]
+
 ghost use Rattle.std.specs.Prelude.{◌≡◌};
 ghost use Rattle.base.specs.Bits.{cut, bit_value};
 ghost use Rattle.base.specs.Refusals.{number_of, place_of};

@@ -1,6 +1,8 @@
 // Capture text: a whole text replayed into a lent array that always suffices. One walk over the text serves two reports: the
 // words obeyed and the keys recorded, and the segments lit. The entries are `replay` and `screen`; the modules `frames`,
 // `put` and `takes` have inner functions, for the other crates, and `walk` what those of `takes` answer.
+#![tactic(auto)]
+
 pub mod frames;
 pub mod put;
 mod reports;

@@ -2,6 +2,8 @@
 // writer. The entries are `power_on`, `apply`, `segments_lit`, `commands::encode`, `play::sample`, `play::play` and `writer::write`.
 // Each tests everything first; where it refuses, it hands the panel back as it was, or zeros, or leaves the buffer. The other public
 // functions are inner ones: other crates call them, they answer for every record, valid or not, and refuse nothing.
+#![tactic(auto)]
+
 use base::{Refusal, Verdict};
 
 pub mod commands;

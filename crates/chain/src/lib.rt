@@ -3,6 +3,8 @@
 // `finder::next_rise`. Each tests everything first; where it refuses, it hands back the record as it was, or zeros where it answers no
 // record. Records from N on are never changed. `play::to_next_rise`, `one::chip_at`, `one::scan_chip` and those of the module `checks` are
 // inner functions, which other crates call: they test no record and refuse nothing.
+#![tactic(auto)]
+
 use base::{Refusal, Verdict};
 use chip::{Chip, Keys, LineParts, Readout};
 

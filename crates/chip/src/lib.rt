@@ -2,6 +2,8 @@
 // `reset_chip`, `apply`, `sample`, `scan` and `segments_lit`. They count as N = 1 of document 01: each tests its chip first; where it
 // refuses, it hands the chip back as it was, or no segments. `is_valid` and the modules are inner: other crates call them, they
 // answer for every record, valid or not, and refuse nothing.
+#![tactic(auto)]
+
 use base::{Refusal, Verdict};
 use word::{Command, Display, System};
 

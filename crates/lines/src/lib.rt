@@ -1,5 +1,7 @@
 // Lines of hexadecimal: where a line ends, its bytes, two digits a byte, and a line written into a lent buffer. The four public
 // functions are inner ones, for the other crates; users have no entry here. None of them has a `requires`.
+#![tactic(auto)]
+
 ghost use Rattle.std.specs.Prelude.{◌≡◌, ◌+◌, ◌≤◌, ◌<◌, [], T, length, drop};
 ghost use Rattle.lines.specs.Answers.{line_length, held_in, frame_for, fitting, Puts};
 ghost use Rattle.lines.specs.Lines as L;

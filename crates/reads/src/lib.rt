@@ -1,5 +1,7 @@
 // What the till read: the last chip's DOUT as a probe recorded it, looked at before each edge of DCLK or LOAD, by the chip's state there. The
 // public functions are inner ones, for the other crates; none of them has a `requires`.
+#![tactic(auto)]
+
 mod ahead;
 mod looks;
 mod notes;

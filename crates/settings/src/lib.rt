@@ -1,6 +1,8 @@
 // Kiosk settings: the settings of a panel's chips as lines of hexadecimal, read and written, and turned into rows for the writer. The
 // entries are `read`, `write` and `rows`; and `again` and `setup`, which take a text and write into a lent array that always suffices
 // what a program prints: the text written again, and the capture text that sets a panel to it.
+#![tactic(auto)]
+
 mod frames;
 mod printed;
 mod puts;

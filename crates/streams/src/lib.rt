@@ -1,6 +1,8 @@
 // Streams of any length, taken in blocks as they arrive: a capture text without its limit of length, or raw samples, told apart by the first
 // byte. The entries are `start`, `feed` and `finish`; each takes any record, any bytes. What they write, put together, is one definition
 // of the whole stream, however it is cut: specs/Streams, proofs/Whole.
+#![tactic(auto)]
+
 pub mod held;
 mod raw;
 mod samples;

@@ -1,6 +1,8 @@
 // The insurer's tally over captures: for each chip four counts, and a tally for each of the 128 seven-bit codes. The entries are `fresh`,
 // a tally at the start; `count`, which counts one capture's text and goes on from the tally that it is given; and `print`, the lines of
 // a tally in a lent array that always suffices.
+#![tactic(auto)]
+
 mod adds;
 mod printed;
 mod room;

@@ -1,6 +1,8 @@
 // Text of two wires: a whole text of a CH450's samples replayed into a lent array that always suffices. One walk over the text serves
 // two reports: the commands obeyed and the key's code read, and the segments lit. The entries are `replay` and `screen`; nothing else is
 // public.
+#![tactic(auto)]
+
 mod frames;
 mod reports;
 mod walk;

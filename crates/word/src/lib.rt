@@ -1,6 +1,8 @@
 // Commands and 12-bit words: document 01's chapter "The words". A word decodes to one of sixteen kinds of command, and a
 // command encodes to its word. The entries are `decode` and `encode`, which answer every input, by document 01's table or with its
 // refusal; `is_legal` is an inner function, for the other crates.
+#![tactic(auto)]
+
 ghost use Rattle.std.specs.Prelude.{◌≡◌, ◌+◌, ◌/◌, ◌≤◌, leb};
 ghost use Rattle.base.specs.Pick.{pick};
 ghost use Rattle.base.specs.Refusals.{done, refused};

@@ -1,5 +1,7 @@
 // The writer: rows of words to samples, each row into its own stretch of the lent buffer. The entry is `write`; nothing else is
 // public.
+#![tactic(auto)]
+
 mod lights;
 
 ghost use Rattle.std.specs.Prelude.{◌≡◌, not, ◌&&◌, ◌+◌, ◌*◌, ◌/◌, ◌≤◌, ◌<◌, length, get_or};

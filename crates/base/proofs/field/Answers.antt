@@ -2,7 +2,7 @@
 -- is a remainder.
 -- Assumes nothing.
 use Rattle.std.proofs.Common.{sym, ◌/◌, ◌^◌}
-use Rattle.base.proofs.Cuts.{cut_past, cut_whole, power_kept, masked}
+use Rattle.base.proofs.Cuts.{cut_past, cut_whole, masked}
 use Rattle.base.proofs.field.Goals as goal
 
 pub returns-then-at-ge16 : goal.returns-then-at-ge16

@@ -7,7 +7,6 @@ use lib.Dec.{eqb}
 use borrow.Author.Tests.{not-true, not-false}
 use Rattle.base.specs.Bits.{bit_value}
 use Rattle.ch450.specs.Edges.{sda}
-use borrow.Author.Rules.{rules}
 use Rattle.ch450.proofs.is_last_bit.Goals as goal
 
 pub returns-then-not-scl : goal.returns-then-not-scl

@@ -9,7 +9,6 @@ use borrow.Author.Tests.{leb-true, le-leb, lt-leb, lt-ltb, le-ltb}
 use Rattle.base.proofs.Cuts.{power_kept}
 use Rattle.base.proofs.Picks.{pick_cases}
 use Rattle.ch450.specs.Panel.{kept_of, last_bit}
-use borrow.Author.Rules.{rules}
 use Rattle.ch450.proofs.is_transfer.Goals as goal
 
 -- at most 19 bits are kept

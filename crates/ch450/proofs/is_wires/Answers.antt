@@ -8,7 +8,6 @@ use borrow.Author.Tests.{le-leb, lt-leb, eq-eqb, ne_eqb}
 use Rattle.base.specs.Pick.{pick}
 use Rattle.ch450.specs.Panel.{valid_transfer, valid_wires}
 use Rattle.ch450.specs.declared.Wires.{Wires}
-use borrow.Author.Rules.{rules}
 use Rattle.ch450.proofs.is_wires.Goals as goal
 
 -- the definition, by what its tests came to

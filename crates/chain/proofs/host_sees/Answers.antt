@@ -6,7 +6,6 @@ use Rattle.base.specs.Refusals.{done, verdict_tells}
 use Rattle.base.proofs.Refusals.{by_done, by_refusal}
 use Rattle.chip.specs.Commands.{dout}
 use Rattle.chain.proofs.Tested.{tested_done, count_low}
-use borrow.Author.Rules.{rules}
 use Rattle.chain.proofs.host_sees.Goals as goal
 
 pub overflow_sub-n : goal.overflow_sub-n

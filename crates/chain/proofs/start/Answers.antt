@@ -8,7 +8,6 @@ use Rattle.base.proofs.Picks.{pick_yes, pick_no}
 use Rattle.chip.specs.declared.Chip.{Chip}
 use Rattle.chain.specs.declared.Chain.{Chain}
 use Rattle.chain.specs.Chain.{most}
-use borrow.Author.Rules.{rules}
 use Rattle.chain.proofs.start.Goals as goal
 
 pub returns-then-not-is_count : goal.returns-then-not-is_count

@@ -6,7 +6,6 @@ use lib.ListN.{replicate}
 use Rattle.chip.specs.declared.Settings.{Settings}
 use Rattle.chip.specs.Record.{blank}
 use Rattle.chain.specs.Chain.{most}
-use borrow.Author.Rules.{rules}
 use Rattle.chain.proofs.zero_chain.Goals as goal
 
 pub returns : goal.returns

@@ -2,7 +2,6 @@
 -- Assumes nothing.
 use mathlib.Core.Path.{sym, ◌∙◌}
 use borrow.Author.Tests.{le-leb, lt-leb}
-use borrow.Author.Rules.{rules}
 use Rattle.chip.proofs.is_line.Goals as goal
 
 pub returns-then-line-gt4095 : goal.returns-then-line-gt4095

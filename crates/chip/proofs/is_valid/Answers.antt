@@ -4,7 +4,6 @@ use mathlib.Core.Path.{ap, ap₂, sym, ◌∙◌}
 use mathlib.Core.Bool.{Bool, ◌&&◌}
 use borrow.Author.Tests.{not-true, not-false}
 use Rattle.chip.specs.Record.{valid_settings, valid_keys}
-use borrow.Author.Rules.{rules}
 use Rattle.chip.proofs.is_valid.Goals as goal
 
 pub returns-then-not-is_line : goal.returns-then-not-is_line

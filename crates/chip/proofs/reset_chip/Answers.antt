@@ -5,7 +5,6 @@ use mathlib.Core.Bool.{true}
 use Rattle.chip.specs.Record.{blank}
 use Rattle.chip.specs.declared.Settings.{Settings}
 use Rattle.chip.specs.declared.Keys.{Keys}
-use borrow.Author.Rules.{rules}
 use Rattle.chip.proofs.reset_chip.Goals as goal
 
 pub returns : goal.returns

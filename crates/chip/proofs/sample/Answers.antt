@@ -7,7 +7,6 @@ use Rattle.base.specs.Refusals.{done}
 use Rattle.base.proofs.Picks.{pick_yes, pick_no}
 use Rattle.chip.specs.Edges.{stepped}
 use Rattle.chip.specs.declared.Chip.{Chip}
-use borrow.Author.Rules.{rules}
 use Rattle.chip.proofs.sample.Goals as goal
 
 pub returns-then-not-is_valid : goal.returns-then-not-is_valid

@@ -5,7 +5,6 @@ use borrow.Author.Tests.{not-true, not-false}
 use Rattle.base.specs.Refusals.{done}
 use Rattle.base.proofs.Picks.{pick_yes, pick_no}
 use Rattle.chip.specs.Scans.{ScanLeaves}
-use borrow.Author.Rules.{rules}
 use Rattle.chip.proofs.scan.Goals as goal
 
 pub returns-then-not-is_valid : goal.returns-then-not-is_valid

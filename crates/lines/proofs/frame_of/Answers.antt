@@ -7,7 +7,6 @@ use lib.Dec.{T}
 use Rattle.lines.specs.Answers.{frame_for}
 use Rattle.lines.specs.Lines.{all_hex}
 use Rattle.lines.proofs.Frames.{held_long, held_other, held_odd, held_whole}
-use borrow.Author.Rules.{rules}
 use Rattle.lines.proofs.frame_of.Goals as goal
 
 pub returns-then-line-gt66 : goal.returns-then-line-gt66

@@ -2,7 +2,6 @@
 -- Assumes nothing.
 use mathlib.Core.Path.{sym}
 use Rattle.lines.proofs.Puts.{hex_low, hex_high}
-use borrow.Author.Rules.{rules}
 use Rattle.lines.proofs.hex_char.Goals as goal
 
 pub returns-then-v-lt10 : goal.returns-then-v-lt10

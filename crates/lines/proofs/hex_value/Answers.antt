@@ -2,7 +2,6 @@
 -- Assumes nothing.
 use mathlib.Core.Path.{sym}
 use Rattle.lines.proofs.Lines.{hex_none, hex_figure, hex_between, hex_letter, hex_past}
-use borrow.Author.Rules.{rules}
 use Rattle.lines.proofs.hex_value.Goals as goal
 
 pub returns-then-ch-lt48 : goal.returns-then-ch-lt48

@@ -1,10 +1,8 @@
 -- `lines::line` meets its contract. The invariant: what is left to write, put where the loop stands, makes the line.
 -- Assumes nothing.
-use Prim.Native.Nat.{◌-◌}
 use native.Mathlib.Omega.{arith}
-use lib.ListN.{length, length-set}
-use Rattle.lines.proofs.Puts.{Writes, line_for_length, writes_start, writes_more, writes_over}
-use borrow.Author.Rules.{rules}
+use lib.ListN.{length-set}
+use Rattle.lines.proofs.Puts.{line_for_length, writes_start, writes_more, writes_over}
 use Rattle.lines.proofs.line.Goals as goal
 
 pub loop-i-init : goal.loop-i-init

@@ -1,10 +1,8 @@
 -- `lines::line` meets its contract. The invariant: what is left to write, put where the loop stands, makes the line.
 -- Assumes nothing.
 use Prim.Native.Nat.{◌-◌}
-use native.Mathlib.Omega.{arith}
-use lib.ListN.{length, length-set}
-use Rattle.lines.proofs.Puts.{Writes, line_for_length, writes_start, writes_more, writes_over}
-use borrow.Author.Rules.{rules}
+use lib.ListN.{length}
+use Rattle.lines.proofs.Puts.{Writes}
 use Rattle.lines.proofs.line.Given as goal
 
 abbrev pub invariant-loop-i : goal.invariant-loop-i

@@ -1,12 +1,8 @@
 -- `lines::line_end` meets its contract. The invariant: the line ends at one place, seen from here and from the start.
 -- Assumes nothing.
-use mathlib.Core.Path.{◌≡◌, refl}
-use Prim.Native.Nat.{◌+◌, ◌-◌}
+use mathlib.Core.Path.{refl}
 use native.Mathlib.Omega.{arith}
-use lib.ListN.{length, drop}
-use Rattle.lines.specs.Answers.{line_length}
 use Rattle.lines.proofs.Lines.{end_here, end_more, end_over}
-use borrow.Author.Rules.{rules}
 use Rattle.lines.proofs.line_end.Goals as goal
 
 pub loop-at-init : goal.loop-at-init

@@ -1,12 +1,9 @@
 -- `lines::line_end` meets its contract. The invariant: the line ends at one place, seen from here and from the start.
 -- Assumes nothing.
-use mathlib.Core.Path.{◌≡◌, refl}
+use mathlib.Core.Path.{◌≡◌}
 use Prim.Native.Nat.{◌+◌, ◌-◌}
-use native.Mathlib.Omega.{arith}
 use lib.ListN.{length, drop}
 use Rattle.lines.specs.Answers.{line_length}
-use Rattle.lines.proofs.Lines.{end_here, end_more, end_over}
-use borrow.Author.Rules.{rules}
 use Rattle.lines.proofs.line_end.Given as goal
 
 abbrev pub invariant-loop-at : goal.invariant-loop-at

@@ -5,7 +5,6 @@ use native.Mathlib.Omega.{arith}
 use lib.ListN.{length}
 use Rattle.lines.specs.Lines.{line_for}
 use Rattle.lines.proofs.Puts.{line_for_length, put_fitting, put_none}
-use borrow.Author.Rules.{rules}
 use Rattle.lines.proofs.put_line.Goals as goal
 
 pub returns-then-at-out : goal.returns-then-at-out

@@ -1,6 +1,6 @@
 -- `reads::has_room` meets its contract: there is room for a sample in so many places.
 -- Assumes nothing.
-use Rattle.std.proofs.Common.{◌+◌, ◌*◌, ◌&&◌, leb, sym, ap, ◌∙◌, ap₂, arith, rules}
+use Rattle.std.proofs.Common.{◌+◌, ◌*◌, ◌&&◌, leb, sym, ap, ◌∙◌, ap₂, arith}
 use borrow.Author.Tests.{lt-leb, not-true, not-false}
 use Rattle.reads.specs.Parts.{sample_room}
 use Rattle.reads.proofs.Looking.{room_where}

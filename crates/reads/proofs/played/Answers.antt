@@ -1,7 +1,7 @@
 -- `reads::played` meets its contract.
 -- Assumes nothing.
-use Rattle.std.proofs.Common.{◌+◌, ◌-◌, ◌^◌, ◌<◌, ◌≤◌, length, ap, arith, length-drop, rules}
-use Rattle.reads.proofs.Sampling.{rest_all, Playing, playing_start, playing_size, playing_room, playing_some, playing_over}
+use Rattle.std.proofs.Common.{◌+◌, ◌^◌, ◌<◌, ◌≤◌, length, ap, arith, length-drop, rules}
+use Rattle.reads.proofs.Sampling.{rest_all, playing_start, playing_size, playing_room, playing_some, playing_over}
 use Rattle.reads.proofs.played.Goals as goal
 
 pub loop-i-init : goal.loop-i-init
@@ -18,7 +18,7 @@ some-ran-requires c =
 pub overflow_add-i : goal.overflow_add-i
 overflow_add-i c =
     let within : c.loop-i.i + c.some-ran.result.count ≤ length c.args.bytes.now =
-        omega (arith, ap length (rest_all c.loop-i.i c.args.bytes.now), length-drop c.loop-i.i c.args.bytes.now, c.some-ran.ensures.within, c.loop-i-test.true) in
+    omega (arith, ap length (rest_all c.loop-i.i c.args.bytes.now), length-drop c.loop-i.i c.args.bytes.now, c.some-ran.ensures.within, c.loop-i-test.true) in
     search (rules, within, c.well_formed.1.1.1.1.1.0)
 
 pub loop-i-smaller : goal.loop-i-smaller

@@ -1,7 +1,7 @@
 -- `reads::played` meets its contract.
 -- Assumes nothing.
-use Rattle.std.proofs.Common.{◌+◌, ◌-◌, ◌^◌, ◌<◌, ◌≤◌, length, ap, arith, length-drop, rules}
-use Rattle.reads.proofs.Sampling.{rest_all, Playing, playing_start, playing_size, playing_room, playing_some, playing_over}
+use Rattle.std.proofs.Common.{◌-◌, length}
+use Rattle.reads.proofs.Sampling.{Playing}
 use Rattle.reads.proofs.played.Given as goal
 
 abbrev pub invariant-loop-i : goal.invariant-loop-i

@@ -1,8 +1,7 @@
 -- `reads::run_length` meets its contract: The invariant: the run ends at one place, seen from here and from the start.
 -- Assumes nothing.
-use Rattle.std.proofs.Common.{◌≡◌, ◌+◌, ◌-◌, length, drop, sym, ◌∙◌, arith, rules}
+use Rattle.std.proofs.Common.{sym, ◌∙◌, arith}
 use borrow.Author.Tests.{not-true, not-false}
-use Rattle.reads.specs.Parts.{run_length}
 use Rattle.reads.proofs.Lengths.{run_more, run_here, run_over}
 use Rattle.reads.proofs.run_length.Goals as goal
 

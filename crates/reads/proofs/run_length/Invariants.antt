@@ -1,9 +1,7 @@
 -- `reads::run_length` meets its contract: The invariant: the run ends at one place, seen from here and from the start.
 -- Assumes nothing.
-use Rattle.std.proofs.Common.{◌≡◌, ◌+◌, ◌-◌, length, drop, sym, ◌∙◌, arith, rules}
-use borrow.Author.Tests.{not-true, not-false}
+use Rattle.std.proofs.Common.{◌≡◌, ◌+◌, ◌-◌, length, drop}
 use Rattle.reads.specs.Parts.{run_length}
-use Rattle.reads.proofs.Lengths.{run_more, run_here, run_over}
 use Rattle.reads.proofs.run_length.Given as goal
 
 abbrev pub invariant-loop-i : goal.invariant-loop-i

@@ -1,6 +1,6 @@
 -- `reads::some` meets its contract.
 -- Assumes nothing.
-use Rattle.std.proofs.Common.{length, sym, ap, arith, length-take-le, rules}
+use Rattle.std.proofs.Common.{length, sym, ap, arith, length-take-le}
 use Rattle.reads.proofs.Watching.{none_written, one_alone, ahead_some, some_size}
 use Rattle.reads.proofs.some.Goals as goal
 

@@ -7,7 +7,6 @@ use Rattle.base.proofs.Cuts.{cut_deeper}
 use Rattle.base.specs.Refusals.{done}
 use Rattle.word.specs.declared.Command.TheVariants.{BarLevel, SegmentClear, SegmentSet}
 use Rattle.word.proofs.Rows.{fits_row}
-use borrow.Author.Rules.{rules}
 use Rattle.word.proofs.bar_or_segment.Goals as goal
 
 pub returns-then-field-eq0 : goal.returns-then-field-eq0

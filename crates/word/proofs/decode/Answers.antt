@@ -7,7 +7,6 @@ use Rattle.base.specs.Refusals.{done}
 use Rattle.base.proofs.Tests.{past}
 use Rattle.word.specs.declared.Command.TheVariants.{BlinkByte, LoadDigit}
 use Rattle.word.proofs.Rows.{fits_row, above_unlisted}
-use borrow.Author.Rules.{rules}
 use Rattle.word.proofs.decode.Goals as goal
 
 pub returns-then-word-gt4095 : goal.returns-then-word-gt4095

@@ -7,7 +7,6 @@ use lib.Dec.{leb}
 use borrow.Author.Tests.{le-leb, lt-leb}
 use Rattle.base.proofs.Picks.{pick_yes, pick_no}
 use Rattle.word.specs.Words.{encoded_of}
-use borrow.Author.Rules.{rules}
 use Rattle.word.proofs.digit_word.Goals as goal
 
 pub returns-then-digit-gt-MOST_DIGIT : goal.returns-then-digit-gt-MOST_DIGIT

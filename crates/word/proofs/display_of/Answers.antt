@@ -10,7 +10,6 @@ use Rattle.base.specs.Refusals.{done}
 use Rattle.base.proofs.Picks.{pick_yes, pick_no}
 use Rattle.word.specs.declared.Command.TheVariants.{DisplayParameters}
 use Rattle.word.proofs.Rows.{fits_row}
-use borrow.Author.Rules.{rules}
 use Rattle.word.proofs.display_of.Goals as goal
 
 pub returns-then-field-ne0 : goal.returns-then-field-ne0

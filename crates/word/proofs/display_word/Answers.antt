@@ -8,7 +8,6 @@ use Rattle.base.specs.Refusals.{done}
 use Rattle.base.proofs.Picks.{pick_yes, pick_no}
 use Rattle.base.proofs.Cuts.{bit_value_lt}
 use Rattle.word.specs.Words.{encoded_of}
-use borrow.Author.Rules.{rules}
 use Rattle.word.proofs.display_word.Goals as goal
 
 pub returns-then-d-gt-MOST_LIMIT : goal.returns-then-d-gt-MOST_LIMIT

@@ -3,7 +3,6 @@
 use mathlib.Core.Path.{ap, sym, ◌∙◌}
 use Rattle.base.specs.Refusals.{done}
 use Rattle.word.specs.Words.{encoded_of}
-use borrow.Author.Rules.{rules}
 use Rattle.word.proofs.encode.Goals as goal
 
 pub returns-in-NoOperation : goal.returns-in-NoOperation

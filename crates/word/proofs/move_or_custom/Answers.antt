@@ -6,7 +6,6 @@ use native.Mathlib.Omega.{arith}
 use Rattle.base.specs.Refusals.{done}
 use Rattle.word.specs.declared.Command.TheVariants.{CustomCharacter}
 use Rattle.word.proofs.Rows.{fits_row, no_row}
-use borrow.Author.Rules.{rules}
 use Rattle.word.proofs.move_or_custom.Goals as goal
 
 pub returns-then-field-eq1 : goal.returns-then-field-eq1

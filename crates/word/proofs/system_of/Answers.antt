@@ -7,7 +7,6 @@ use Rattle.base.specs.Bits.{cut}
 use Rattle.base.proofs.Cuts.{cut_deeper}
 use Rattle.base.proofs.Picks.{pick_yes, pick_no}
 use Rattle.word.proofs.Rows.{fits_row, no_row}
-use borrow.Author.Rules.{rules}
 use Rattle.word.proofs.system_of.Goals as goal
 
 pub returns-then-field-ne0 : goal.returns-then-field-ne0

@@ -2,7 +2,6 @@
 -- Assumes nothing.
 use native.Mathlib.Omega.{arith}
 use Rattle.base.proofs.Cuts.{bit_value_lt}
-use borrow.Author.Rules.{rules}
 use Rattle.word.proofs.system_word.Goals as goal
 
 pub overflow_mul-result : goal.overflow_mul-result

@@ -4,7 +4,6 @@ use mathlib.Core.Path.{ap, sym, ◌∙◌}
 use mathlib.Core.Bool.{Bool, not, ◌&&◌}
 use borrow.Author.Tests.{not-true, not-false}
 use Rattle.writer.specs.Rows.{for_last}
-use borrow.Author.Rules.{rules}
 use Rattle.writer.proofs.is_early_keypad.Goals as goal
 
 pub returns-then-not-turns_keypad_on : goal.returns-then-not-turns_keypad_on

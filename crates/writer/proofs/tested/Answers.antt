@@ -2,7 +2,6 @@
 -- Assumes nothing.
 use mathlib.Core.Path.{sym, ◌∙◌}
 use Rattle.writer.proofs.Tests.{test_means, test_keypad, test_sleep, test_passed}
-use borrow.Author.Rules.{rules}
 use Rattle.writer.proofs.tested.Goals as goal
 
 pub returns-then-is_early_keypad : goal.returns-then-is_early_keypad

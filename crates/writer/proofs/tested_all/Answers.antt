@@ -1,8 +1,8 @@
 -- `writer::tested_all` meets its contract. The invariant: what the test says of the rest it says of the whole.
 -- Assumes nothing.
-use mathlib.Core.Path.{◌≡◌, refl, ap, sym, ◌∙◌}
-use Prim.Native.Nat.{◌+◌, ◌-◌, ◌≤◌}
-use lib.ListN.{length, drop}
+use mathlib.Core.Path.{refl, ap, sym, ◌∙◌}
+use Prim.Native.Nat.{◌+◌}
+use lib.ListN.{drop}
 use Rattle.base.specs.Refusals.{Told, verdict_tells}
 use Rattle.writer.specs.Rows.{or_else, words_from}
 use Rattle.writer.proofs.Tests.{words_more, words_over}

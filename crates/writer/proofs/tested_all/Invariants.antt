@@ -1,12 +1,9 @@
 -- `writer::tested_all` meets its contract. The invariant: what the test says of the rest it says of the whole.
 -- Assumes nothing.
-use mathlib.Core.Path.{◌≡◌, refl, ap, sym, ◌∙◌}
-use Prim.Native.Nat.{◌+◌, ◌-◌, ◌≤◌}
+use mathlib.Core.Path.{◌≡◌}
+use Prim.Native.Nat.{◌-◌, ◌≤◌}
 use lib.ListN.{length, drop}
-use Rattle.base.specs.Refusals.{Told, verdict_tells}
-use Rattle.writer.specs.Rows.{or_else, words_from}
-use Rattle.writer.proofs.Tests.{words_more, words_over}
-use borrow.Author.Rules.{rules}
+use Rattle.writer.specs.Rows.{words_from}
 use Rattle.writer.proofs.tested_all.Given as goal
 
 abbrev pub invariant-loop-i : goal.invariant-loop-i

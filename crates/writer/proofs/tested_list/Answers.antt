@@ -6,7 +6,6 @@ use borrow.Author.Tests.{eq-eqb, ne_eqb, le-leb, lt-leb, not-true, not-false}
 use lib.Dec.{T}
 use Rattle.base.proofs.Picks.{pick_yes, pick_no}
 use Rattle.chain.proofs.Tested.{count_low}
-use borrow.Author.Rules.{rules}
 use Rattle.writer.proofs.tested_list.Goals as goal
 
 -- a test that was not refused was passed

@@ -2,7 +2,6 @@
 -- Assumes nothing.
 use mathlib.Core.Path.{ap, sym}
 use Rattle.writer.specs.Rows.{keypad_on}
-use borrow.Author.Rules.{rules}
 use Rattle.writer.proofs.turns_keypad_on.Goals as goal
 
 pub returns-in-SystemParameters : goal.returns-in-SystemParameters

@@ -19,7 +19,6 @@ use Rattle.writer.specs.declared.Written.TheVariants.{Samples, Refused}
 use Rattle.writer.specs.Rows.{list_test, written}
 use Rattle.writer.specs.Written.{Writes, written_tells, answer_of, answer_by, bytes_by, room}
 use Rattle.writer.proofs.Tests.{list_passed}
-use borrow.Author.Rules.{rules}
 use Rattle.writer.proofs.write.Goals as goal
 
 -- the answer where the list passed: what the buffer's length decides

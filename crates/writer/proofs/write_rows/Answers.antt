@@ -8,7 +8,7 @@ use native.Mathlib.Nat.{sub-zero, mul-zero, mul-le-mul_left, div-mul-le_self}
 use native.Mathlib.Omega.{arith}
 use borrow.Rule.Slice.PartMut.{put_mid}
 use lib.ListN.{length, take, drop, length-take, length-drop}
-use Rattle.writer.specs.Rows.{width, cut_rows, samples_of, row_samples, written}
+use Rattle.writer.specs.Rows.{width, cut_rows, samples_of, row_samples}
 use Rattle.writer.proofs.Filling.{put_length, row_samples_length}
 use Rattle.writer.proofs.Stretches.{rows_more, rows_kept, rows_over}
 use borrow.Author.Rules.{rules}
@@ -96,8 +96,11 @@ returns c =
     let rows = length ws / n in
     let e : l.r ≡ rows = omega arith in
     let z : rows - l.r ≡ 0 = omega arith in
-    let fit : n * rows ≤ length ws = omega (arith, div-mul-le_self (length ws) n) in record { value = refl; out_after = rows_over n rows ws l.out a.out.now fit
+    let fit : n * rows ≤ length ws = omega (arith, div-mul-le_self (length ws) n) in record {
+      value = refl;
+      out_after = rows_over n rows ws l.out a.out.now fit
           (sym
           (ap₂ (λ (r m : ℕ). take (width n * r) l.out ++ samples_of (cut_rows m n (drop (n * r) ws))) e z ∙ append-nil (take (width n * rows) l.out))
           ∙ l.invariant.2)
-          (ap (λ (r : ℕ). drop (width n * r) l.out) (sym e) ∙ l.invariant.3 ∙ ap (λ (r : ℕ). drop (width n * r) a.out.now) e) }
+          (ap (λ (r : ℕ). drop (width n * r) l.out) (sym e) ∙ l.invariant.3 ∙ ap (λ (r : ℕ). drop (width n * r) a.out.now) e);
+    }

@@ -1,17 +1,11 @@
 -- `writer::write_rows` meets its contract. The invariant: the rows written so far, and the samples of the rows left, are all the
 -- samples, and the bytes past them are as they were.
 -- Assumes nothing.
-use mathlib.Core.Path.{◌≡◌, refl, ap, ap₂, sym, ◌∙◌}
-use mathlib.Core.List.{List, ◌++◌, append-nil}
-use Prim.Native.Nat.{ℕ, ◌+◌, ◌-◌, ◌*◌, ◌/◌, ◌≤◌}
-use native.Mathlib.Nat.{sub-zero, mul-zero, mul-le-mul_left, div-mul-le_self}
-use native.Mathlib.Omega.{arith}
-use borrow.Rule.Slice.PartMut.{put_mid}
-use lib.ListN.{length, take, drop, length-take, length-drop}
-use Rattle.writer.specs.Rows.{width, cut_rows, samples_of, row_samples, written}
-use Rattle.writer.proofs.Filling.{put_length, row_samples_length}
-use Rattle.writer.proofs.Stretches.{rows_more, rows_kept, rows_over}
-use borrow.Author.Rules.{rules}
+use mathlib.Core.Path.{◌≡◌}
+use mathlib.Core.List.{◌++◌}
+use Prim.Native.Nat.{◌-◌, ◌*◌, ◌≤◌}
+use lib.ListN.{length, take, drop}
+use Rattle.writer.specs.Rows.{width, cut_rows, samples_of, written}
 use Rattle.writer.proofs.write_rows.Given as goal
 
 abbrev pub invariant-loop-r : goal.invariant-loop-r

@@ -1,13 +1,10 @@
 -- `writer::write_word` meets its contract. The invariant: the samples written so far, and those of the bits left, are the word's.
 -- Assumes nothing.
-use mathlib.Core.Path.{◌≡◌, refl, ap, sym, ◌∙◌}
+use mathlib.Core.Path.{◌≡◌}
 use mathlib.Core.List.{◌++◌}
-use Prim.Native.Nat.{ℕ, ◌+◌, ◌-◌, ◌*◌, ◌≤◌}
-use native.Mathlib.Omega.{arith}
-use lib.ListN.{length, set, take, drop, length-set}
+use Prim.Native.Nat.{◌-◌, ◌*◌, ◌≤◌}
+use lib.ListN.{length, take, drop}
 use Rattle.writer.specs.Rows.{word_bits, clocking}
-use Rattle.writer.proofs.Filling.{word_more, word_over}
-use borrow.Author.Rules.{rules}
 use Rattle.writer.proofs.write_word.Given as goal
 
 abbrev pub invariant-loop-at : goal.invariant-loop-at

@@ -12,7 +12,6 @@ use Rattle.chain.specs.Chain.{chip_count}
 use Rattle.capture.specs.Frames.{first_of}
 use Rattle.capture.specs.Parts.{chips_in}
 use Rattle.capture.proofs.Firsts.{first_count, first_test, first_three}
-use borrow.Author.Rules.{rules}
 use Rattle.capture.proofs.frames.chips_in.Goals as goal
 
 -- one part of the test that fails is enough

@@ -2,7 +2,6 @@
 -- Assumes nothing.
 use mathlib.Core.Path.{sym}
 use Rattle.capture.proofs.Forms.{form_none, by_samples, by_kind, by_count, by_far, by_scan}
-use borrow.Author.Rules.{rules}
 use Rattle.capture.proofs.frames.form_of.Goals as goal
 
 pub returns-then-bytes-lt1 : goal.returns-then-bytes-lt1

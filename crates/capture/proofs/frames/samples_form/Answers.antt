@@ -3,7 +3,6 @@
 use mathlib.Core.Path.{ap, sym, ◌∙◌}
 use Rattle.base.specs.Refusals.{verdict_tells}
 use Rattle.capture.proofs.Forms.{samples_few, samples_many, samples_good, samples_bad}
-use borrow.Author.Rules.{rules}
 use Rattle.capture.proofs.frames.samples_form.Goals as goal
 
 pub returns-then-ss-lt1 : goal.returns-then-ss-lt1

@@ -8,7 +8,6 @@ use Rattle.base.proofs.Refusals.{number_small}
 use Rattle.lines.specs.Answers.{fitting}
 use Rattle.lines.specs.Lines.{line_for, four_bytes}
 use Rattle.capture.proofs.Reported.{puts_as}
-use borrow.Author.Rules.{rules}
 use Rattle.capture.proofs.put.refusal.Goals as goal
 
 pub returns : goal.returns

@@ -3,7 +3,6 @@
 use mathlib.Core.Path.{refl}
 use mathlib.Core.List.{[], ◌∷◌}
 use Rattle.capture.proofs.Reported.{line_put}
-use borrow.Author.Rules.{rules}
 use Rattle.capture.proofs.reports.code_line.Goals as goal
 
 pub returns : goal.returns

@@ -8,7 +8,6 @@ use Rattle.chip.specs.declared.Recorded.{Recorded}
 use Rattle.chip.specs.Scans.{recording_of}
 use Rattle.capture.specs.Reports.{key_line}
 use Rattle.capture.proofs.Reported.{none_put, puts_as}
-use borrow.Author.Rules.{rules}
 use Rattle.capture.proofs.reports.key_line.Goals as goal
 
 -- the line of a case

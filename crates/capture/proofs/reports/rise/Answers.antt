@@ -2,10 +2,9 @@
 -- whole.
 -- Assumes nothing.
 use mathlib.Core.Path.{◌≡◌}
-use Prim.Native.Nat.{◌-◌, ◌≤◌}
 use native.Mathlib.Omega.{arith}
 use lib.ListN.{length}
-use Rattle.base.proofs.Lent.{Fills, fills_start}
+use Rattle.base.proofs.Lent.{fills_start}
 use Rattle.base.proofs.Lists.{length_mapped}
 use Rattle.chain.specs.Chain.{most}
 use Rattle.capture.proofs.Reported.{rises_left, left_room, left_more, left_over}

@@ -1,15 +1,9 @@
 -- `capture::reports::rise` meets its contract. The invariant: the lines of the chips left, put where the loop stands, make the
 -- whole.
 -- Assumes nothing.
-use mathlib.Core.Path.{◌≡◌}
 use Prim.Native.Nat.{◌-◌, ◌≤◌}
-use native.Mathlib.Omega.{arith}
-use lib.ListN.{length}
-use Rattle.base.proofs.Lent.{Fills, fills_start}
-use Rattle.base.proofs.Lists.{length_mapped}
-use Rattle.chain.specs.Chain.{most}
-use Rattle.capture.proofs.Reported.{rises_left, left_room, left_more, left_over}
-use borrow.Author.Rules.{rules}
+use Rattle.base.proofs.Lent.{Fills}
+use Rattle.capture.proofs.Reported.{rises_left}
 use Rattle.capture.proofs.reports.rise.Given as goal
 
 abbrev pub invariant-loop-k : goal.invariant-loop-k

@@ -1,13 +1,9 @@
 -- `capture::reports::same` meets its contract. The invariant: what the test says of the rest it says of the whole.
 -- Assumes nothing.
-use mathlib.Core.Path.{◌≡◌, refl, ap, sym, ◌∙◌}
-use mathlib.Core.Bool.{Bool, ◌&&◌}
-use Prim.Native.Nat.{◌+◌, ◌-◌, ◌≤◌}
-use borrow.Author.Tests.{eq-eqb, ne_eqb}
-use lib.ListN.{get_or, drop}
+use mathlib.Core.Path.{◌≡◌}
+use Prim.Native.Nat.{◌-◌, ◌≤◌}
+use lib.ListN.{drop}
 use Rattle.capture.specs.Reports.{same_bytes}
-use Rattle.capture.proofs.Reported.{same_more, same_over}
-use borrow.Author.Rules.{rules}
 use Rattle.capture.proofs.reports.same.Given as goal
 
 abbrev pub invariant-loop-i : goal.invariant-loop-i

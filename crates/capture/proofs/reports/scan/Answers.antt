@@ -5,7 +5,6 @@ use native.Mathlib.Omega.{arith}
 use lib.ListN.{length}
 use Rattle.chip.specs.Scans.{leaves_of}
 use Rattle.capture.proofs.Reported.{none_put, puts_as, screen_length, scan_words, scan_same, scan_other}
-use borrow.Author.Rules.{rules}
 use Rattle.capture.proofs.reports.scan.Goals as goal
 
 pub key_line-requires : goal.key_line-requires

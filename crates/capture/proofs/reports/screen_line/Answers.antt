@@ -5,7 +5,6 @@ use native.Mathlib.Omega.{arith}
 use lib.ListN.{length}
 use Rattle.capture.specs.Reports.{screen_line}
 use Rattle.capture.proofs.Reported.{line_put, screen_length, ten_bytes, screen_put}
-use borrow.Author.Rules.{rules}
 use Rattle.capture.proofs.reports.screen_line.Goals as goal
 
 pub returns : goal.returns

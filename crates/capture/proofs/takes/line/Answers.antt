@@ -7,7 +7,6 @@ use borrow.Author.Tests.{leb-true, leb-false, not-true, not-false}
 use lib.ListN.{length}
 use Rattle.capture.specs.Takes.{line_room}
 use Rattle.capture.proofs.Taken.{line_where_lem, line_else, takes_so, none_taken, line_fits}
-use borrow.Author.Rules.{rules}
 use Rattle.capture.proofs.takes.line.Goals as goal
 
 pub returns-then-n-gt-MOST : goal.returns-then-n-gt-MOST

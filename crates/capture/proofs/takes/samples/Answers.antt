@@ -5,7 +5,6 @@ use native.Mathlib.Omega.{arith}
 use lib.ListN.{length}
 use Rattle.capture.specs.Takes.{sample_room}
 use Rattle.capture.proofs.Taken.{samples_where_lem, samples_else, takes_so, none_taken, samples_fit}
-use borrow.Author.Rules.{rules}
 use Rattle.capture.proofs.takes.samples.Goals as goal
 
 pub returns-then-n-gt-MOST : goal.returns-then-n-gt-MOST

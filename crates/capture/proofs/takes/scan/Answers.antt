@@ -7,7 +7,6 @@ use borrow.Author.Tests.{leb-true, not-true, not-false}
 use lib.ListN.{length}
 use Rattle.capture.specs.Takes.{scan_room}
 use Rattle.capture.proofs.Taken.{scan_where_lem, scan_else, takes_so, none_taken, scan_fits}
-use borrow.Author.Rules.{rules}
 use Rattle.capture.proofs.takes.scan.Goals as goal
 
 pub returns-then-not-has_room : goal.returns-then-not-has_room

@@ -2,14 +2,11 @@
 -- and ends as the whole does.
 -- Assumes nothing.
 use Prim.Native.Nat.{◌-◌}
-use native.Mathlib.Omega.{arith}
-use borrow.Author.Tests.{not-true, not-false}
 use lib.ListN.{length, drop}
 use Rattle.lines.specs.Lines.{lines_of}
 use Rattle.capture.specs.Replay.{lines_out, lines_end}
-use Rattle.capture.proofs.Walked.{takes_line, line_reader, lines_walked, ends_walked}
-use Rattle.capture.proofs.Walks.{Walks, walks_start, walks_over, cut_room, walks_cut, walks_count, walks_room, walks_refusal_room, walks_refused, walks_more}
-use borrow.Author.Rules.{rules}
+use Rattle.capture.proofs.Walked.{takes_line}
+use Rattle.capture.proofs.Walks.{Walks}
 use Rattle.capture.proofs.walk.lines.Given as goal
 
 abbrev pub invariant-loop-place : goal.invariant-loop-place

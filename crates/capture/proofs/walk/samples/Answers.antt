@@ -1,12 +1,9 @@
 -- `capture::walk::samples` meets its contract. The invariant is `Going`: what is left makes the whole.
 -- Assumes nothing.
-use Prim.Native.Nat.{◌-◌}
-use lib.ListN.{length}
 use Rattle.base.proofs.Picks.{pick_yes, pick_no}
 use Rattle.chain.proofs.Stretch.{stretch_fewer}
 use Rattle.capture.proofs.Reported.{none_put}
-use Rattle.capture.proofs.Samples.{Going, going_start, turn_room, turn_again, going_over}
-use borrow.Author.Rules.{rules}
+use Rattle.capture.proofs.Samples.{going_start, turn_room, turn_again, going_over}
 use Rattle.capture.proofs.walk.samples.Goals as goal
 
 pub loop-i-init : goal.loop-i-init

@@ -2,11 +2,7 @@
 -- Assumes nothing.
 use Prim.Native.Nat.{◌-◌}
 use lib.ListN.{length}
-use Rattle.base.proofs.Picks.{pick_yes, pick_no}
-use Rattle.chain.proofs.Stretch.{stretch_fewer}
-use Rattle.capture.proofs.Reported.{none_put}
-use Rattle.capture.proofs.Samples.{Going, going_start, turn_room, turn_again, going_over}
-use borrow.Author.Rules.{rules}
+use Rattle.capture.proofs.Samples.{Going}
 use Rattle.capture.proofs.walk.samples.Given as goal
 
 abbrev pub invariant-loop-i : goal.invariant-loop-i

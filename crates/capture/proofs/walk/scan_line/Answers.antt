@@ -2,7 +2,6 @@
 -- Assumes nothing.
 use lib.ListN.{length}
 use Rattle.capture.proofs.Forms.{scan_room_lem, scan_taken}
-use borrow.Author.Rules.{rules}
 use Rattle.capture.proofs.walk.scan_line.Goals as goal
 
 pub scan-requires : goal.scan-requires

@@ -6,7 +6,6 @@ use lib.ListN.{length}
 use Rattle.lines.proofs.Puts.{put_whole}
 use Rattle.capture.proofs.Reported.{refusal_length}
 use Rattle.capture.proofs.Firsts.{long_out_lem, none_out, replays_so, piece_room, begun_more, begun_few, begun_out}
-use borrow.Author.Rules.{rules}
 use Rattle.capture.proofs.walk.whole.Goals as goal
 
 pub returns-then-text-gt-LONGEST : goal.returns-then-text-gt-LONGEST

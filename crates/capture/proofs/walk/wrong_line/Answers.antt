@@ -4,7 +4,6 @@ use mathlib.Core.Path.{refl}
 use native.Mathlib.Omega.{arith}
 use Rattle.lines.proofs.Puts.{put_whole}
 use Rattle.capture.proofs.Reported.{refusal_length}
-use borrow.Author.Rules.{rules}
 use Rattle.capture.proofs.walk.wrong_line.Goals as goal
 
 pub returns : goal.returns

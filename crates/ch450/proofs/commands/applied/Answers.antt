@@ -2,7 +2,6 @@
 -- Assumes nothing.
 use mathlib.Core.Path.{ap, ◌∙◌}
 use Rattle.ch450.specs.Commands as C
-use borrow.Author.Rules.{rules}
 use Rattle.ch450.proofs.commands.applied.Goals as goal
 
 pub returns : goal.returns

@@ -7,7 +7,6 @@ use borrow.Author.Tests.{not-true, not-false}
 use Rattle.base.specs.Refusals.{done}
 use Rattle.base.proofs.Picks.{pick_yes, pick_no}
 use Rattle.ch450.proofs.Digits.{digit_range}
-use borrow.Author.Rules.{rules}
 use Rattle.ch450.proofs.commands.digit_word.Goals as goal
 
 pub returns-then-not-is_digit : goal.returns-then-not-is_digit

@@ -2,7 +2,6 @@
 -- Assumes nothing.
 use mathlib.Core.Path.{ap, sym, ◌∙◌}
 use Rattle.ch450.specs.Commands.{encoded_of}
-use borrow.Author.Rules.{rules}
 use Rattle.ch450.proofs.commands.encode.Goals as goal
 
 pub returns-in-Parameters : goal.returns-in-Parameters

@@ -7,7 +7,6 @@ use Rattle.base.proofs.Picks.{pick_yes, pick_no}
 use Rattle.ch450.specs.declared.Settings.{Settings}
 use Rattle.ch450.specs.declared.Command.TheVariants.{Parameters, LoadDigit}
 use Rattle.ch450.specs.declared.commands.Meaning.TheVariants.{Means}
-use borrow.Author.Rules.{rules}
 use Rattle.ch450.proofs.commands.meaning_of.Goals as goal
 
 pub returns-then-first-eq72 : goal.returns-then-first-eq72

@@ -6,7 +6,6 @@ use Prim.Native.Nat.{ℕ}
 use Rattle.ch450.specs.Commands.{obey}
 use Rattle.ch450.specs.Panel.{with_digits}
 use Rattle.ch450.specs.declared.Command.{Command}
-use borrow.Author.Rules.{rules}
 use Rattle.ch450.proofs.commands.obey.Goals as goal
 
 pub returns-in-Parameters : goal.returns-in-Parameters

@@ -3,7 +3,6 @@
 use mathlib.Core.Path.{ap, sym, ◌∙◌}
 use Rattle.ch450.specs.Commands.{obeyed}
 use Rattle.ch450.specs.declared.commands.Meaning.{Meaning}
-use borrow.Author.Rules.{rules}
 use Rattle.ch450.proofs.commands.obeyed.Goals as goal
 
 pub returns-in-Means : goal.returns-in-Means

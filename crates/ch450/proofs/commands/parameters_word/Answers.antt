@@ -8,7 +8,6 @@ use Rattle.base.specs.Refusals.{done}
 use Rattle.base.proofs.Cuts.{bit_value_lt}
 use Rattle.base.proofs.Picks.{pick_yes, pick_no}
 use Rattle.ch450.specs.Commands.{parameter_byte}
-use borrow.Author.Rules.{rules}
 use Rattle.ch450.proofs.commands.parameters_word.Goals as goal
 
 pub returns-then-s-gt3 : goal.returns-then-s-gt3

@@ -1,7 +1,6 @@
 -- `ch450::commands::settings_of` meets its contract: each field is cut from the byte.
 -- Assumes nothing.
 use lib.Dec.{eqb}
-use borrow.Author.Rules.{rules}
 use Rattle.ch450.proofs.commands.settings_of.Goals as goal
 
 pub returns : goal.returns

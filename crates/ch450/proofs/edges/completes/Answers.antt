@@ -5,7 +5,6 @@ use mathlib.Core.Bool.{Bool, ◌&&◌}
 use lib.Dec.{eqb}
 use borrow.Author.Tests.{eq-eqb, ne_eqb, not-true, not-false}
 use Rattle.ch450.specs.Edges as E
-use borrow.Author.Rules.{rules}
 use Rattle.ch450.proofs.edges.completes.Goals as goal
 
 pub returns-then-not-wires : goal.returns-then-not-wires

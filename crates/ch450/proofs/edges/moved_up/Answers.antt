@@ -3,7 +3,6 @@
 use native.Mathlib.Omega.{arith}
 use lib.Bits.{and_mask}
 use Rattle.base.proofs.Cuts.{bit_value_lt}
-use borrow.Author.Rules.{rules}
 use Rattle.ch450.proofs.edges.moved_up.Goals as goal
 
 pub overflow_add-result : goal.overflow_add-result

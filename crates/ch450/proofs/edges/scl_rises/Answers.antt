@@ -3,7 +3,6 @@
 use mathlib.Core.Path.{ap, sym, ◌∙◌}
 use mathlib.Core.Bool.{Bool, not, ◌&&◌}
 use Rattle.ch450.specs.Edges.{scl}
-use borrow.Author.Rules.{rules}
 use Rattle.ch450.proofs.edges.scl_rises.Goals as goal
 
 pub returns-then-scl : goal.returns-then-scl

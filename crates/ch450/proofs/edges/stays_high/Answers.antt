@@ -4,7 +4,6 @@ use mathlib.Core.Path.{◌≡◌, refl, sym, ◌∙◌}
 use mathlib.Core.Bool.{Bool, true, false, ◌&&◌}
 use borrow.Author.Tests.{not-true, not-false}
 use Rattle.ch450.specs.Edges.{scl}
-use borrow.Author.Rules.{rules}
 use Rattle.ch450.proofs.edges.stays_high.Goals as goal
 
 -- the second of two, where it is known

@@ -5,7 +5,6 @@ use mathlib.Core.Bool.{Bool, true}
 use Prim.Native.Nat.{ℕ}
 use Rattle.base.proofs.Picks.{pick_yes, pick_no}
 use Rattle.ch450.specs.Edges as E
-use borrow.Author.Rules.{rules}
 use Rattle.ch450.proofs.edges.stepped.Goals as goal
 
 pub returns-then-starts : goal.returns-then-starts

@@ -4,7 +4,6 @@ use mathlib.Core.Path.{ap, ap₂, sym, ◌∙◌}
 use mathlib.Core.Bool.{Bool, not, ◌&&◌}
 use borrow.Author.Tests.{not-true, not-false}
 use Rattle.ch450.specs.Edges.{sda}
-use borrow.Author.Rules.{rules}
 use Rattle.ch450.proofs.edges.stops.Goals as goal
 
 pub returns-then-not-stays_high : goal.returns-then-not-stays_high

@@ -4,7 +4,6 @@ use mathlib.Core.Path.{ap, sym, ◌∙◌}
 use mathlib.Core.Bool.{Bool, ◌&&◌}
 use borrow.Author.Tests.{not-true, not-false}
 use Rattle.ch450.specs.Edges.{scl_rises}
-use borrow.Author.Rules.{rules}
 use Rattle.ch450.proofs.edges.takes.Goals as goal
 
 pub returns-then-not-wires : goal.returns-then-not-wires

@@ -4,7 +4,6 @@ use mathlib.Core.Path.{ap₂, sym, ◌∙◌}
 use borrow.Author.Tests.{not-true, not-false}
 use Rattle.base.proofs.Picks.{pick_yes, pick_no}
 use Rattle.ch450.specs.Commands as C
-use borrow.Author.Rules.{rules}
 use Rattle.ch450.proofs.edges.told_at.Goals as goal
 
 pub returns-then-not-completes : goal.returns-then-not-completes

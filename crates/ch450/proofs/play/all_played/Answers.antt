@@ -1,13 +1,11 @@
 -- `ch450::play::all_played` meets its contract. The invariant: the rest, played from here, is the whole played; the reads so far and those
 -- of the rest are the whole's; and there are no more of them than samples so far.
 -- Assumes nothing.
-use mathlib.Core.Path.{◌≡◌, refl, ap₂, sym, ◌∙◌}
-use Prim.Native.Nat.{ℕ, ◌+◌, ◌-◌, ◌≤◌}
+use mathlib.Core.Path.{refl, ap₂, sym, ◌∙◌}
+use Prim.Native.Nat.{ℕ}
 use native.Mathlib.Nat.{zero-add}
 use native.Mathlib.Omega.{arith}
-use lib.ListN.{length, drop}
 use Rattle.ch450.specs.declared.Panel.{Panel}
-use Rattle.ch450.specs.Samples.{played, reads_in}
 use Rattle.ch450.proofs.Rest.{play_over, reads_over}
 use Rattle.ch450.proofs.Stretches.{read_once, stretch_fewer, stretch_within, stretch_plays, stretch_reads}
 use borrow.Author.Rules.{rules}

@@ -2,7 +2,6 @@
 -- Assumes nothing.
 use mathlib.Core.Path.{sym, ◌∙◌}
 use Rattle.base.proofs.Picks.{pick_yes}
-use borrow.Author.Rules.{rules}
 use Rattle.ch450.proofs.play.code_read.Goals as goal
 
 pub returns-then-is_read : goal.returns-then-is_read

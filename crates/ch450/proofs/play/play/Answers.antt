@@ -5,7 +5,6 @@ use Rattle.base.specs.Refusals.{done}
 use Rattle.base.proofs.Refusals.{by_done, by_refusal}
 use Rattle.ch450.specs.declared.play.Run.{Run}
 use Rattle.ch450.specs.Entries as E
-use borrow.Author.Rules.{rules}
 use Rattle.ch450.proofs.play.play.Goals as goal
 
 pub returns-in-Refused : goal.returns-in-Refused

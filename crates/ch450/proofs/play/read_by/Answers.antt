@@ -5,7 +5,6 @@ use Rattle.base.specs.Bits.{bit_value}
 use Rattle.ch450.specs.declared.commands.Meaning.{Meaning}
 use Rattle.ch450.specs.Commands.{is_read}
 use Rattle.ch450.specs.Stretch.{read_by}
-use borrow.Author.Rules.{rules}
 use Rattle.ch450.proofs.play.read_by.Goals as goal
 
 pub returns-then-is_read : goal.returns-then-is_read

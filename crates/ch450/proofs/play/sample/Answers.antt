@@ -7,7 +7,6 @@ use Rattle.base.proofs.Picks.{pick_yes, pick_no}
 use Rattle.base.proofs.Refusals.{by_done, by_refusal}
 use Rattle.ch450.specs.declared.Panel.{Panel}
 use Rattle.ch450.specs.Entries as E
-use borrow.Author.Rules.{rules}
 use Rattle.ch450.proofs.play.sample.Goals as goal
 
 pub returns-then-sample-gt3 : goal.returns-then-sample-gt3

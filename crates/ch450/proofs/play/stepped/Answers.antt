@@ -6,7 +6,6 @@ use Rattle.ch450.specs.declared.commands.Meaning.{Meaning}
 use Rattle.ch450.specs.Commands.{obeyed}
 use Rattle.ch450.specs.Panel.{with_wires}
 use Rattle.ch450.specs.Samples as S
-use borrow.Author.Rules.{rules}
 use Rattle.ch450.proofs.play.stepped.Goals as goal
 
 pub returns : goal.returns

@@ -4,7 +4,6 @@ use mathlib.Core.Path.{sym, ◌∙◌}
 use borrow.Author.Tests.{le-leb, lt-leb, not-true, not-false}
 use Rattle.base.proofs.Picks.{pick_yes, pick_no}
 use Rattle.ch450.specs.Entries as E
-use borrow.Author.Rules.{rules}
 use Rattle.ch450.proofs.play.tested.Goals as goal
 
 pub returns-then-not-is_valid : goal.returns-then-not-is_valid

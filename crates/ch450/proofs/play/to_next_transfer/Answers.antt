@@ -1,15 +1,12 @@
 -- `ch450::play::to_next_transfer` meets its contract. The invariant: the stretch of the rest is that of the whole.
 -- Assumes nothing.
-use mathlib.Core.Path.{◌≡◌, refl, ap₂, sym, ◌∙◌}
-use Prim.Native.Nat.{◌+◌, ◌-◌}
-use lib.ListN.{length, drop}
+use mathlib.Core.Path.{ap₂, sym, ◌∙◌}
+use Prim.Native.Nat.{◌+◌}
 use Rattle.base.proofs.Picks.{pick_yes}
 use Rattle.ch450.specs.declared.Panel.{Panel}
 use Rattle.ch450.specs.declared.play.Transfer.{Transfer}
 use Rattle.ch450.specs.declared.play.Transfer.TheVariants.{Bytes}
-use Rattle.ch450.specs.Stretch.{stretch_from}
 use Rattle.ch450.proofs.Stretches.{stretch_more, stretch_step, stretch_over}
-use borrow.Author.Rules.{rules}
 use Rattle.ch450.proofs.play.to_next_transfer.Goals as goal
 
 pub returns-then-completes : goal.returns-then-completes

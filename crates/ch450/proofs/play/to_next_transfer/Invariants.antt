@@ -1,15 +1,9 @@
 -- `ch450::play::to_next_transfer` meets its contract. The invariant: the stretch of the rest is that of the whole.
 -- Assumes nothing.
-use mathlib.Core.Path.{◌≡◌, refl, ap₂, sym, ◌∙◌}
-use Prim.Native.Nat.{◌+◌, ◌-◌}
+use mathlib.Core.Path.{◌≡◌}
+use Prim.Native.Nat.{◌-◌}
 use lib.ListN.{length, drop}
-use Rattle.base.proofs.Picks.{pick_yes}
-use Rattle.ch450.specs.declared.Panel.{Panel}
-use Rattle.ch450.specs.declared.play.Transfer.{Transfer}
-use Rattle.ch450.specs.declared.play.Transfer.TheVariants.{Bytes}
 use Rattle.ch450.specs.Stretch.{stretch_from}
-use Rattle.ch450.proofs.Stretches.{stretch_more, stretch_step, stretch_over}
-use borrow.Author.Rules.{rules}
 use Rattle.ch450.proofs.play.to_next_transfer.Given as goal
 
 abbrev pub invariant-loop-i : goal.invariant-loop-i

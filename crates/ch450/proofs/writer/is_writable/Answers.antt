@@ -1,7 +1,6 @@
 -- `ch450::writer::is_writable` meets its contract: its tests are the definition's.
 -- Assumes nothing.
 use borrow.Author.Tests.{eq-eqb, ne_eqb}
-use borrow.Author.Rules.{rules}
 use Rattle.ch450.proofs.writer.is_writable.Goals as goal
 
 pub returns-then-first-eq72 : goal.returns-then-first-eq72

@@ -1,10 +1,7 @@
 -- `ch450::writer::tested` meets its contract. The invariant: what the test says of the rest it says of the whole.
 -- Assumes nothing.
-use mathlib.Core.Path.{◌≡◌, refl, sym, ◌∙◌}
-use Prim.Native.Nat.{◌-◌, ◌≤◌}
+use mathlib.Core.Path.{refl, sym, ◌∙◌}
 use borrow.Author.Tests.{not-true, not-false}
-use lib.ListN.{length, drop}
-use Rattle.ch450.specs.Written.{words_from}
 use Rattle.ch450.proofs.Tests.{words_more, words_bad, words_over, list_long, list_short}
 use borrow.Author.Rules.{rules}
 use Rattle.ch450.proofs.writer.tested.Goals as goal

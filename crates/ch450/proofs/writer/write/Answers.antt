@@ -14,7 +14,6 @@ use Rattle.ch450.specs.declared.writer.Written.{Written}
 use Rattle.ch450.specs.declared.writer.Written.TheVariants.{Samples, Refused}
 use Rattle.ch450.specs.Written.{Writes, written_tells, answer_of, answer_by, bytes_by, list_test, written}
 use Rattle.ch450.proofs.Tests.{few_words}
-use borrow.Author.Rules.{rules}
 use Rattle.ch450.proofs.writer.write.Goals as goal
 
 -- the answer by the list's test

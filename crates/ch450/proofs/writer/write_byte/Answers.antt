@@ -1,10 +1,9 @@
 -- `ch450::writer::write_byte` meets its contract. The invariant: the samples of the bits left, and of the acknowledge, put where the
 -- loop stands, are the byte's.
 -- Assumes nothing.
-use Prim.Native.Nat.{◌-◌, ◌*◌, ◌≤◌}
 use native.Mathlib.Omega.{arith}
 use lib.ListN.{length-set}
-use Rattle.base.proofs.Lent.{Fills, fills_start}
+use Rattle.base.proofs.Lent.{fills_start}
 use Rattle.ch450.proofs.Filling.{byte_left, byte_more, byte_over}
 use borrow.Author.Rules.{rules}
 use Rattle.ch450.proofs.writer.write_byte.Goals as goal

@@ -2,11 +2,8 @@
 -- loop stands, are the byte's.
 -- Assumes nothing.
 use Prim.Native.Nat.{◌-◌, ◌*◌, ◌≤◌}
-use native.Mathlib.Omega.{arith}
-use lib.ListN.{length-set}
-use Rattle.base.proofs.Lent.{Fills, fills_start}
-use Rattle.ch450.proofs.Filling.{byte_left, byte_more, byte_over}
-use borrow.Author.Rules.{rules}
+use Rattle.base.proofs.Lent.{Fills}
+use Rattle.ch450.proofs.Filling.{byte_left}
 use Rattle.ch450.proofs.writer.write_byte.Given as goal
 
 abbrev pub invariant-loop-at : goal.invariant-loop-at

@@ -6,7 +6,6 @@ use lib.Dec.{T, leb, leb→le}
 use lib.ListN.{length-set}
 use Rattle.ch450.specs.Written.{byte_bits, clocking}
 use Rattle.ch450.proofs.Filling.{command_filled}
-use borrow.Author.Rules.{rules}
 use Rattle.ch450.proofs.writer.write_command.Goals as goal
 
 -- up to 40 is within a stretch

@@ -2,10 +2,10 @@
 -- the whole.
 -- Assumes nothing.
 use mathlib.Core.Path.{◌≡◌, ap}
-use Prim.Native.Nat.{ℕ, ◌+◌, ◌-◌, ◌*◌, ◌≤◌}
+use Prim.Native.Nat.{ℕ, ◌+◌, ◌-◌, ◌*◌}
 use native.Mathlib.Omega.{arith}
-use lib.ListN.{length, drop}
-use Rattle.base.proofs.Lent.{Fills, fills_start}
+use lib.ListN.{length}
+use Rattle.base.proofs.Lent.{fills_start}
 use Rattle.ch450.specs.Written.{written}
 use Rattle.ch450.proofs.Filling.{commands_more, commands_over}
 use borrow.Author.Rules.{rules}

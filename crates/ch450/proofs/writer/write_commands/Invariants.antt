@@ -1,14 +1,10 @@
 -- `ch450::writer::write_commands` meets its contract. The invariant: the samples of the commands left, put where the loop stands, make
 -- the whole.
 -- Assumes nothing.
-use mathlib.Core.Path.{◌≡◌, ap}
-use Prim.Native.Nat.{ℕ, ◌+◌, ◌-◌, ◌*◌, ◌≤◌}
-use native.Mathlib.Omega.{arith}
+use Prim.Native.Nat.{◌-◌, ◌*◌, ◌≤◌}
 use lib.ListN.{length, drop}
-use Rattle.base.proofs.Lent.{Fills, fills_start}
+use Rattle.base.proofs.Lent.{Fills}
 use Rattle.ch450.specs.Written.{written}
-use Rattle.ch450.proofs.Filling.{commands_more, commands_over}
-use borrow.Author.Rules.{rules}
 use Rattle.ch450.proofs.writer.write_commands.Given as goal
 
 abbrev pub invariant-loop-k : goal.invariant-loop-k

@@ -12,7 +12,6 @@ use Rattle.base.proofs.Refusals.{by_done, by_refusal}
 use Rattle.chain.specs.declared.Chain.{Chain}
 use Rattle.chain.specs.declared.blocks.AfterBlock.{AfterBlock}
 use Rattle.chain.specs.Blocks.{rises_in, handed_block, block_of, list_by, Blocks}
-use borrow.Author.Rules.{rules}
 use Rattle.chain.proofs.blocks.block.Goals as goal
 
 -- what a block does, by an outcome that it is known to have

@@ -1,13 +1,9 @@
 -- `chain::blocks::counted` meets its contract. The invariant: the rises so far and those of the rest are all.
 -- Assumes nothing.
-use mathlib.Core.Path.{◌≡◌, ap, sym, ◌∙◌}
+use mathlib.Core.Path.{◌≡◌}
 use Prim.Native.Nat.{◌+◌, ◌-◌, ◌≤◌}
-use native.Mathlib.Omega.{arith}
 use lib.ListN.{length, drop}
-use Rattle.base.proofs.Picks.{pick_yes, pick_no}
 use Rattle.chain.specs.Blocks.{rises_from}
-use Rattle.chain.proofs.Rises.{rises_more, rises_over}
-use borrow.Author.Rules.{rules}
 use Rattle.chain.proofs.blocks.counted.Given as goal
 
 abbrev pub invariant-loop-i : goal.invariant-loop-i

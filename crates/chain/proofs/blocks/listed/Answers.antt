@@ -12,13 +12,11 @@ use Rattle.base.proofs.Picks.{pick_yes, pick_no}
 use Rattle.base.proofs.Stores.{one_put}
 use Rattle.chain.specs.declared.Chain.{Chain}
 use Rattle.chain.specs.declared.play.Stretch.{Stretch}
-use Rattle.chain.specs.Chain.{played}
 use Rattle.chain.specs.Blocks.{rises_from, rises_in}
 use Rattle.chain.specs.Stretch.{stretch_from}
 use Rattle.chain.proofs.Rest.{play_over}
 use Rattle.chain.proofs.Rises.{rises_over, stretch_rises}
 use Rattle.chain.proofs.Stretch.{stretch_fewer, stretch_plays}
-use borrow.Author.Rules.{rules}
 use Rattle.chain.proofs.blocks.listed.Goals as goal
 
 -- ---- one stretch

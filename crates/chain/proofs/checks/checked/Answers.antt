@@ -1,11 +1,9 @@
 -- `chain::checks::checked` meets its contract. The invariant: what the test says of the rest it says of the whole.
 -- Assumes nothing.
-use mathlib.Core.Path.{◌≡◌, refl, sym, ◌∙◌}
-use Prim.Native.Nat.{◌-◌, ◌≤◌}
+use mathlib.Core.Path.{refl, sym, ◌∙◌}
 use borrow.Author.Tests.{le-leb, lt-leb}
-use lib.ListN.{length, get_or, drop}
+use lib.ListN.{get_or}
 use Rattle.base.proofs.Picks.{pick_yes, pick_no}
-use Rattle.chain.specs.Chain.{checked_from}
 use Rattle.chain.proofs.Rest.{check_more, check_over}
 use borrow.Author.Rules.{rules}
 use Rattle.chain.proofs.checks.checked.Goals as goal

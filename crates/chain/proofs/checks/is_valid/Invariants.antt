@@ -1,17 +1,9 @@
 -- `chain::checks::is_valid` meets its contract. The invariant: what the test says of the rest it says of the whole.
 -- Assumes nothing.
-use mathlib.Core.Path.{◌≡◌, ap, sym, ◌∙◌}
-use mathlib.Core.Bool.{Bool, ◌&&◌}
-use Prim.Native.Nat.{ℕ, ◌+◌, ◌-◌, ◌≤◌}
-use native.Mathlib.Nat.{sub-zero}
-use native.Mathlib.Omega.{arith}
-use borrow.Author.Tests.{not-true, not-false}
-use lib.Dec.{leb}
-use lib.ListN.{length, drop}
-use Rattle.base.proofs.Lists.{length_mapped}
-use Rattle.chain.specs.Chain.{most, all_valid}
-use Rattle.chain.proofs.Rest.{all_more, all_over, all_past}
-use borrow.Author.Rules.{rules}
+use mathlib.Core.Path.{◌≡◌}
+use Prim.Native.Nat.{◌-◌, ◌≤◌}
+use lib.ListN.{drop}
+use Rattle.chain.specs.Chain.{all_valid}
 use Rattle.chain.proofs.checks.is_valid.Given as goal
 
 abbrev pub invariant-loop-k : goal.invariant-loop-k

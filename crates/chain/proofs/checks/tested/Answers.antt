@@ -3,7 +3,6 @@
 use mathlib.Core.Path.{sym, ◌∙◌}
 use borrow.Author.Tests.{not-true, not-false}
 use Rattle.base.proofs.Picks.{pick_yes, pick_no}
-use borrow.Author.Rules.{rules}
 use Rattle.chain.proofs.checks.tested.Goals as goal
 
 pub returns-then-not-is_count : goal.returns-then-not-is_count

@@ -1,11 +1,10 @@
 -- `chain::finder::looked` meets its contract. The invariant: the next LOAD rise of the rest is that of the whole.
 -- Assumes nothing.
 use mathlib.Core.Path.{◌≡◌, refl, ap, sym, ◌∙◌}
-use Prim.Native.Nat.{◌-◌, ◌≤◌}
 use native.Mathlib.Omega.{arith}
-use lib.ListN.{length, drop}
+use lib.ListN.{length}
 use Rattle.base.proofs.Picks.{pick_yes, pick_no}
-use Rattle.chain.specs.Finder.{NextRise, rise_from, passed_by}
+use Rattle.chain.specs.Finder.{NextRise, passed_by}
 use Rattle.chain.proofs.Rest.{rise_more, rise_over}
 use borrow.Author.Rules.{rules}
 use Rattle.chain.proofs.finder.looked.Goals as goal

@@ -5,7 +5,6 @@ use borrow.Author.Tests.{le-leb, lt-leb}
 use Rattle.base.specs.Refusals.{Told, done, verdict_tells}
 use Rattle.base.proofs.Picks.{pick_yes, pick_no}
 use Rattle.chain.specs.Finder.{Report, reported, looked_of}
-use borrow.Author.Rules.{rules}
 use Rattle.chain.proofs.finder.next_rise.Goals as goal
 
 pub returns-then-levels-gt7 : goal.returns-then-levels-gt7

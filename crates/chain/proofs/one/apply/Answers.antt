@@ -9,7 +9,6 @@ use Rattle.chip.specs.declared.Chip.{Chip}
 use Rattle.chip.specs.Commands.{applied}
 use Rattle.chain.specs.declared.Chain.{Chain}
 use Rattle.chain.specs.Entries as E
-use borrow.Author.Rules.{rules}
 use Rattle.chain.proofs.one.apply.Goals as goal
 
 pub returns-then-not-is_legal : goal.returns-then-not-is_legal

@@ -8,7 +8,6 @@ use Rattle.base.proofs.Refusals.{by_done, by_refusal}
 use Rattle.chip.specs.Scans.{Recording, ScanLeaves}
 use Rattle.chain.specs.declared.Chain.{Chain}
 use Rattle.chain.specs.Entries as E
-use borrow.Author.Rules.{rules}
 use Rattle.chain.proofs.one.scan.Goals as goal
 
 pub returns-then-k-n : goal.returns-then-k-n

@@ -4,7 +4,6 @@ use mathlib.Core.Path.{ap, ◌∙◌}
 use Rattle.chip.specs.declared.Chip.{Chip}
 use Rattle.chip.specs.Scans.{ScanLeaves, scan_leaves}
 use Rattle.chain.specs.Entries.{with_chip}
-use borrow.Author.Rules.{rules}
 use Rattle.chain.proofs.one.scan_chip.Goals as goal
 
 pub returns : goal.returns

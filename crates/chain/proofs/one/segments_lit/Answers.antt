@@ -8,7 +8,6 @@ use Rattle.base.specs.Refusals.{done}
 use Rattle.base.proofs.Picks.{pick_yes, pick_no}
 use Rattle.base.proofs.Refusals.{by_done, by_refusal}
 use Rattle.chip.specs.Segments.{lit_of}
-use borrow.Author.Rules.{rules}
 use Rattle.chain.proofs.one.segments_lit.Goals as goal
 
 pub returns-then-k-n : goal.returns-then-k-n

@@ -4,7 +4,6 @@ use mathlib.Core.Path.{ap, sym, ◌∙◌}
 use Rattle.base.specs.Refusals.{done}
 use Rattle.base.proofs.Refusals.{by_done, by_refusal}
 use Rattle.chain.specs.declared.Chain.{Chain}
-use borrow.Author.Rules.{rules}
 use Rattle.chain.proofs.play.play.Goals as goal
 
 pub returns-in-Refused : goal.returns-in-Refused

@@ -1,12 +1,8 @@
 -- `chain::play::played` meets its contract. The invariant: the rest, played from here, is the whole played.
 -- Assumes nothing.
-use mathlib.Core.Path.{◌≡◌, refl, sym, ◌∙◌}
-use Prim.Native.Nat.{◌-◌}
-use lib.ListN.{length, drop}
-use Rattle.chain.specs.Chain.{played}
+use mathlib.Core.Path.{sym, ◌∙◌}
 use Rattle.chain.proofs.Rest.{play_over}
 use Rattle.chain.proofs.Stretch.{stretch_fewer, stretch_plays}
-use borrow.Author.Rules.{rules}
 use Rattle.chain.proofs.play.played.Goals as goal
 
 pub loop-i-smaller : goal.loop-i-smaller

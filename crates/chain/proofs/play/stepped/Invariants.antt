@@ -1,17 +1,10 @@
 -- `chain::play::stepped` meets its contract. The invariant: the chips done so far, and the row of the rest, are the row of the whole.
 -- Assumes nothing.
-use mathlib.Core.Path.{◌≡◌, ap, sym, ◌∙◌}
-use mathlib.Core.Bool.{Bool}
-use mathlib.Core.List.{List, ◌++◌}
-use Prim.Native.Nat.{ℕ, ◌+◌, ◌-◌, ◌≤◌, ◌<◌}
-use native.Mathlib.Nat.{sub-zero}
-use native.Mathlib.Omega.{arith}
-use lib.ListN.{length, take, drop, length-set}
-use Rattle.base.proofs.Lists.{length_mapped}
-use Rattle.chip.specs.declared.Chip.{Chip}
+use mathlib.Core.Path.{◌≡◌}
+use mathlib.Core.List.{◌++◌}
+use Prim.Native.Nat.{◌-◌, ◌≤◌}
+use lib.ListN.{length, take, drop}
 use Rattle.chain.specs.Chain.{most, stepped_row}
-use Rattle.chain.proofs.Rest.{row_more, row_over}
-use borrow.Author.Rules.{rules}
 use Rattle.chain.proofs.play.stepped.Given as goal
 
 abbrev pub invariant-loop-k : goal.invariant-loop-k

@@ -1,9 +1,9 @@
 -- `chain::play::stretch_of` meets its contract. The invariant: the stretch of the rest is that of the whole.
 -- Assumes nothing.
-use mathlib.Core.Path.{◌≡◌, refl, ap, sym, ◌∙◌}
+use mathlib.Core.Path.{refl, ap, sym, ◌∙◌}
 use mathlib.Core.Bool.{Bool, false}
 use mathlib.Core.List.{List, [], ◌++◌}
-use Prim.Native.Nat.{ℕ, ◌+◌, ◌-◌, ◌≤◌, ◌<◌}
+use Prim.Native.Nat.{ℕ, ◌+◌, ◌-◌, ◌<◌}
 use native.Mathlib.Nat.{sub-zero}
 use native.Mathlib.Omega.{arith}
 use lib.ListN.{length, get_or, set, take, drop, length-set}
@@ -12,8 +12,7 @@ use Rattle.base.proofs.Picks.{pick_yes}
 use Rattle.chip.specs.declared.Chip.{Chip}
 use Rattle.chip.specs.Commands as C
 use Rattle.chip.specs.Edges.{din}
-use Rattle.chain.specs.Chain.{most, stepped_row}
-use Rattle.chain.specs.Stretch.{stretch_from}
+use Rattle.chain.specs.Chain.{stepped_row}
 use Rattle.chain.proofs.Rest.{row_more, row_over}
 use Rattle.chain.proofs.Steps.{with_latch, with_latch_alone, with_left, two_stores, stepped_rise, stepped_fall, row_any, row_still}
 use Rattle.chain.proofs.Stretch.{risen, stretch_more, stretch_step, stretch_over}

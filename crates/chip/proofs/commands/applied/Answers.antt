@@ -2,7 +2,6 @@
 -- Assumes nothing.
 use mathlib.Core.Path.{ap, ◌∙◌}
 use Rattle.chip.specs.Commands as C
-use borrow.Author.Rules.{rules}
 use Rattle.chip.proofs.commands.applied.Goals as goal
 
 pub returns : goal.returns

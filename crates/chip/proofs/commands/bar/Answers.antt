@@ -1,7 +1,6 @@
 -- `chip::commands::bar` meets its contract, digit by digit.
 -- Assumes nothing.
 use mathlib.Core.List.{[], ◌∷◌}
-use borrow.Author.Rules.{rules}
 use Rattle.chip.proofs.commands.bar.Goals as goal
 
 pub returns : goal.returns

@@ -4,7 +4,6 @@ use mathlib.Core.Path.{sym, ◌∙◌}
 use borrow.Author.Tests.{le-leb, lt-leb}
 use Rattle.base.proofs.Picks.{pick_yes, pick_no}
 use Rattle.base.proofs.Bytes.{bar_byte}
-use borrow.Author.Rules.{rules}
 use Rattle.chip.proofs.commands.bar_byte.Goals as goal
 
 pub returns-then-lit-ge8 : goal.returns-then-lit-ge8

@@ -5,7 +5,6 @@ use Rattle.base.specs.Refusals.{Told}
 use Rattle.word.specs.Answers.{decoded_tells}
 use Rattle.word.specs.declared.Command.{Command}
 use Rattle.chip.specs.Commands.{applied_word}
-use borrow.Author.Rules.{rules}
 use Rattle.chip.proofs.commands.loaded.Goals as goal
 
 pub returns-in-Means : goal.returns-in-Means

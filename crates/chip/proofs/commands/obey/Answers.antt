@@ -6,7 +6,6 @@ use Prim.Native.Nat.{ℕ}
 use Rattle.word.specs.declared.Command.{Command}
 use Rattle.chip.specs.Record as P
 use Rattle.chip.specs.Commands as C
-use borrow.Author.Rules.{rules}
 use Rattle.chip.proofs.commands.obey.Goals as goal
 
 pub returns-in-NoOperation : goal.returns-in-NoOperation

@@ -4,7 +4,6 @@ use mathlib.Core.Path.{ap₂}
 use Rattle.chip.specs.Record.{blank}
 use Rattle.chip.specs.declared.Settings.{Settings}
 use Rattle.chip.specs.declared.Keys.{Keys}
-use borrow.Author.Rules.{rules}
 use Rattle.chip.proofs.commands.reset.Goals as goal
 
 pub returns : goal.returns

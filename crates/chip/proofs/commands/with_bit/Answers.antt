@@ -13,9 +13,7 @@ use Rattle.base.proofs.Cuts.{power_kept}
 use Rattle.base.proofs.Picks.{pick_yes, pick_no}
 use Rattle.base.specs.Bits.{byte_of}
 use Rattle.base.proofs.Bytes.{byte_below, bit_made, bit_at_most}
-use borrow.Author.Rules.{rules}
 use Rattle.chip.proofs.commands.with_bit.Goals as goal
-use Rattle.chip.proofs.commands.with_bit.Lts as lts
 
 -- the byte that is wanted
 abbrev wanted : Bool → ℕ → ℕ → ℕ

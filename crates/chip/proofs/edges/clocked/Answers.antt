@@ -4,7 +4,6 @@ use mathlib.Core.Path.{ap, ap₂, sym, ◌∙◌}
 use mathlib.Core.Bool.{Bool}
 use Prim.Native.Nat.{ℕ}
 use Rattle.base.proofs.Picks.{pick_yes, pick_no}
-use borrow.Author.Rules.{rules}
 use Rattle.chip.proofs.edges.clocked.Goals as goal
 
 pub returns-then-dclk_falls : goal.returns-then-dclk_falls

@@ -3,7 +3,6 @@
 use mathlib.Core.Path.{ap, sym, ◌∙◌}
 use mathlib.Core.Bool.{Bool, not, ◌&&◌}
 use Rattle.base.specs.Bits.{bit}
-use borrow.Author.Rules.{rules}
 use Rattle.chip.proofs.edges.dclk_falls.Goals as goal
 
 pub returns-then-wire : goal.returns-then-wire

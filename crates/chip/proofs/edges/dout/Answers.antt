@@ -1,6 +1,5 @@
 -- `chip::edges::dout` meets its contract: the definition names the same parts.
 -- Assumes nothing.
-use borrow.Author.Rules.{rules}
 use Rattle.chip.proofs.edges.dout.Goals as goal
 
 pub returns : goal.returns

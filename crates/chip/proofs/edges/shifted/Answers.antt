@@ -2,7 +2,6 @@
 -- Assumes nothing.
 use native.Mathlib.Omega.{arith}
 use Rattle.base.proofs.Cuts.{bit_value_lt}
-use borrow.Author.Rules.{rules}
 use Rattle.chip.proofs.edges.shifted.Goals as goal
 
 pub overflow_add-result : goal.overflow_add-result

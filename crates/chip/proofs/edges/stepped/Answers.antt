@@ -5,7 +5,6 @@ use Rattle.base.proofs.Picks.{pick_yes, pick_no}
 use Rattle.chip.specs.Record as P
 use Rattle.chip.specs.Edges as E
 use Rattle.chip.specs.declared.LineParts.{LineParts}
-use borrow.Author.Rules.{rules}
 use Rattle.chip.proofs.edges.stepped.Goals as goal
 
 pub returns-then-load_rises : goal.returns-then-load_rises

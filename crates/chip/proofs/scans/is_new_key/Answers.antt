@@ -1,7 +1,6 @@
 -- `chip::scans::is_new_key` meets its contract: its tests are the definition's.
 -- Assumes nothing.
 use borrow.Author.Tests.{eq-eqb, ne_eqb}
-use borrow.Author.Rules.{rules}
 use Rattle.chip.proofs.scans.is_new_key.Goals as goal
 
 pub returns-then-r-keys : goal.returns-then-r-keys

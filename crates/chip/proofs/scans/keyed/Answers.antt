@@ -11,7 +11,6 @@ use Rattle.base.specs.Bits.{cut, bit, bit_value}
 use Rattle.base.proofs.Picks.{pick_yes, pick_no}
 use Rattle.chip.specs.Scans.{new_key, both_none, code_of, released, keyed, keys_record, nothing, release_noted}
 use Rattle.chip.specs.declared.Keys.{Keys}
-use borrow.Author.Rules.{rules}
 use Rattle.chip.proofs.scans.keyed.Goals as goal
 
 -- a key record with the code and the interrupt that the definition has
@@ -51,9 +50,12 @@ returns-then-field-eq0 c =
     let e = sym c.is_new_key.ensures ∙ c.if-is_new_key.false in
     let n : both_none a.r a.keys ≡ true = simp (eq-eqb a.r 64 c.if-r-ne-NONE.false, eq-eqb a.keys.last 64 c.if-keys-ne-NONE.false) in
     let zero : cut a.keys.code 6 1 ≡ 0 = sym c.field.ensures ∙ c.if-field-eq0.true in
-    let clear : bit a.keys.code 6 ≡ false = ne_eqb (cut a.keys.code 6 1) 1 (λ q. omega arith) in record { keys_value = kept a.r a.keys
+    let clear : bit a.keys.code 6 ≡ false = ne_eqb (cut a.keys.code 6 1) 1 (λ q. omega arith) in record {
+      keys_value = kept a.r a.keys
           (sym (sub-zero a.keys.code) ∙ ap (λ (t : Bool). a.keys.code - 64 * bit_value t) (sym clear) ∙ sym (pick_no _ _ e ∙ pick_yes _ _ n))
-          (sym (pick_no _ _ e)); recorded_value = no_key a.r a.keys e (λ i. n i && clear i) }
+          (sym (pick_no _ _ e));
+      recorded_value = no_key a.r a.keys e (λ i. n i && clear i);
+    }
 
 pub returns : goal.returns
 returns c =

@@ -3,7 +3,6 @@
 use mathlib.Core.Path.{ap, sym, ◌∙◌}
 use Rattle.chip.specs.Masks.{lowest_in}
 use Rattle.chip.proofs.Rows.{row_none, row_lowest}
-use borrow.Author.Rules.{rules}
 use Rattle.chip.proofs.scans.result.Goals as goal
 
 pub returns-then-segs-eq0 : goal.returns-then-segs-eq0

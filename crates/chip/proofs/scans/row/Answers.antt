@@ -9,7 +9,6 @@ use lib.Bits.{bit_and, mask_lt}
 use Rattle.base.specs.Bits.{bit}
 use Rattle.base.proofs.Bits.{and_bit, shr_bit, low_byte}
 use Rattle.chip.proofs.Masks.{gathered, gathered_bit, any_same, only_one, mask_bit}
-use borrow.Author.Rules.{rules}
 use Rattle.chip.proofs.scans.row.Goals as goal
 
 abbrev kept : ℕ → ℕ → ℕ

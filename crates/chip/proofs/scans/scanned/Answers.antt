@@ -4,7 +4,6 @@ use mathlib.Core.Path.{ap, sym, subst, ◌∙◌}
 use Prim.Native.Nat.{ℕ, ◌≤◌}
 use Rattle.chip.specs.Scans.{scanned_by, recorded_by}
 use Rattle.chip.proofs.Closed.{result_le}
-use borrow.Author.Rules.{rules}
 use Rattle.chip.proofs.scans.scanned.Goals as goal
 
 pub scanned_by-requires : goal.scanned_by-requires

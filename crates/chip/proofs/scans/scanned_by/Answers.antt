@@ -6,7 +6,6 @@ use borrow.Author.Tests.{lt-ltb, le-ltb, not-true, not-false}
 use Rattle.base.proofs.Picks.{pick_yes, pick_no}
 use Rattle.chip.specs.Record.{with_keys}
 use Rattle.chip.specs.declared.Keys.{Keys}
-use borrow.Author.Rules.{rules}
 use Rattle.chip.proofs.scans.scanned_by.Goals as goal
 
 -- asleep, whatever KEYB is

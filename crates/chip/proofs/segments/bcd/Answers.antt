@@ -9,7 +9,6 @@ use borrow.Author.Tests.{eq-eqb, ne_eqb}
 use Rattle.base.specs.Bits.{cut, bit, bit_value}
 use Rattle.chip.specs.Segments.{shape}
 use Rattle.chip.proofs.Shapes.{shape_lt}
-use borrow.Author.Rules.{rules}
 use Rattle.chip.proofs.segments.bcd.Goals as goal
 
 pub overflow_add-result : goal.overflow_add-result

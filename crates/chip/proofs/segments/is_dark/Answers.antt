@@ -3,7 +3,6 @@
 use mathlib.Core.Path.{sym}
 use borrow.Author.Tests.{eq-eqb, ne_eqb, not-false}
 use Rattle.base.proofs.Tests.{not_ltb}
-use borrow.Author.Rules.{rules}
 use Rattle.chip.proofs.segments.is_dark.Goals as goal
 
 pub returns-then-s-eq0 : goal.returns-then-s-eq0

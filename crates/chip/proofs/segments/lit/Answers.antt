@@ -1,7 +1,6 @@
 -- `chip::segments::lit` meets its contract, digit by digit.
 -- Assumes nothing.
 use mathlib.Core.List.{[], ◌∷◌}
-use borrow.Author.Rules.{rules}
 use Rattle.chip.proofs.segments.lit.Goals as goal
 
 pub returns : goal.returns

@@ -2,7 +2,6 @@
 -- Assumes nothing.
 use mathlib.Core.Path.{sym, ◌∙◌}
 use Rattle.base.proofs.Picks.{pick_yes, pick_no}
-use borrow.Author.Rules.{rules}
 use Rattle.chip.proofs.segments.lit_digit.Goals as goal
 
 pub returns-then-is_dark : goal.returns-then-is_dark

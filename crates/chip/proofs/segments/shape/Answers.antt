@@ -3,7 +3,6 @@
 use mathlib.Core.Path.{sym, ◌∙◌}
 use borrow.Author.Tests.{eq-eqb, ne_eqb}
 use Rattle.base.proofs.Picks.{pick_yes, pick_no}
-use borrow.Author.Rules.{rules}
 use Rattle.chip.proofs.segments.shape.Goals as goal
 
 pub returns-then-code-eq30 : goal.returns-then-code-eq30

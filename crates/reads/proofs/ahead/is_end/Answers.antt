@@ -1,6 +1,6 @@
 -- `reads::ahead::is_end` meets its contract.
 -- Assumes nothing.
-use Rattle.std.proofs.Common.{◌||◌, sym, ap, ◌∙◌, rules, eq-eqb, ne_eqb}
+use Rattle.std.proofs.Common.{◌||◌, sym, ap, ◌∙◌, eq-eqb, ne_eqb}
 use Rattle.chip.specs.Edges.{load_rises}
 use Rattle.reads.proofs.ahead.is_end.Goals as goal
 

@@ -1,6 +1,6 @@
 -- `reads::ahead::known_after` meets its contract.
 -- Assumes nothing.
-use Rattle.std.proofs.Common.{sym, ◌∙◌, rules}
+use Rattle.std.proofs.Common.{sym, ◌∙◌}
 use Rattle.base.proofs.Picks.{pick_yes, pick_no}
 use Rattle.reads.proofs.ahead.known_after.Goals as goal
 

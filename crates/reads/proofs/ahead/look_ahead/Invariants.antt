@@ -1,15 +1,11 @@
 -- `reads::ahead::look_ahead` meets its contract. The invariant: what was looked at is as it should be for any chain whose last chip and levels
 -- these are.
 -- Assumes nothing.
-use Rattle.std.proofs.Common.{◌≡◌, ◌-◌, ◌^◌, ◌<◌, T, length, sym, refl, ap, ◌∙◌, subst, arith, rules}
-use Rattle.base.proofs.Lists.{length_mapped}
+use Rattle.std.proofs.Common.{◌≡◌, ◌-◌, length}
 use Rattle.chain.specs.declared.Chain.{Chain}
 use Rattle.chain.specs.Chain.{most}
-use Rattle.chain.proofs.Tested.{count_high, count_low}
-use Rattle.reads.specs.Parts.{known_after}
 use Rattle.reads.specs.Reads.{last_chip}
-use Rattle.reads.specs.Till.{keypad_on}
-use Rattle.reads.proofs.Watching.{Watching, watching_start, watching_size, watching_room, watching_more, no_end}
+use Rattle.reads.proofs.Watching.{Watching}
 use Rattle.reads.proofs.ahead.look_ahead.Given as goal
 
 abbrev pub invariant-loop-i : goal.invariant-loop-i

@@ -1,6 +1,6 @@
 -- `reads::looks::at_edge` meets its contract: by the last chip.
 -- Assumes nothing.
-use Rattle.std.proofs.Common.{sym, ◌∙◌, ap₂, rules, eq-eqb, ne_eqb}
+use Rattle.std.proofs.Common.{sym, ◌∙◌, ap₂, eq-eqb, ne_eqb}
 use borrow.Author.Tests.{not-true, not-false}
 use Rattle.base.proofs.Picks.{pick_yes, pick_no}
 use Rattle.reads.specs.Reads.{in_readout}

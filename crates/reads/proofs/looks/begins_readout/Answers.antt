@@ -1,6 +1,6 @@
 -- `reads::looks::begins_readout` meets its contract.
 -- Assumes nothing.
-use Rattle.std.proofs.Common.{not, ◌&&◌, eqb, sym, ap, ◌∙◌, ap₂, rules}
+use Rattle.std.proofs.Common.{not, ◌&&◌, eqb, sym, ap, ◌∙◌, ap₂}
 use borrow.Author.Tests.{not-true, not-false}
 use Rattle.reads.proofs.looks.begins_readout.Goals as goal
 

@@ -1,6 +1,6 @@
 -- `reads::looks::bits_with` meets its contract.
 -- Assumes nothing.
-use Rattle.std.proofs.Common.{sym, ap, ◌∙◌, rules, eq-eqb, ne_eqb}
+use Rattle.std.proofs.Common.{sym, ap, ◌∙◌, eq-eqb, ne_eqb}
 use Rattle.base.proofs.Picks.{pick_yes, pick_no}
 use Rattle.reads.specs.declared.Dout.{Dout}
 use Rattle.reads.specs.Reads.{bits_with}

@@ -1,6 +1,6 @@
 -- `reads::looks::fall_tells` meets its contract.
 -- Assumes nothing.
-use Rattle.std.proofs.Common.{sym, ◌∙◌, rules, le-ltb, lt-ltb, eq-eqb, ne_eqb}
+use Rattle.std.proofs.Common.{sym, ◌∙◌, le-ltb, lt-ltb, eq-eqb, ne_eqb}
 use Rattle.base.proofs.Picks.{pick_yes, pick_no}
 use Rattle.reads.proofs.looks.fall_tells.Goals as goal
 

@@ -1,6 +1,6 @@
 -- `reads::looks::is_edge` meets its contract.
 -- Assumes nothing.
-use Rattle.std.proofs.Common.{not, ◌||◌, eqb, sym, ap, ◌∙◌, ap₂, arith, rules, eq-eqb, ne_eqb}
+use Rattle.std.proofs.Common.{not, ◌||◌, eqb, sym, ap, ◌∙◌, ap₂, arith, eq-eqb, ne_eqb}
 use Rattle.base.specs.Bits.{cut}
 use Rattle.chip.specs.Edges.{load}
 use Rattle.reads.specs.Reads.{differ}

@@ -1,6 +1,6 @@
 -- `reads::looks::kept` meets its contract.
 -- Assumes nothing.
-use Rattle.std.proofs.Common.{sym, ap, ◌∙◌, ap₂, rules, le-ltb, lt-ltb}
+use Rattle.std.proofs.Common.{sym, ap, ◌∙◌, ap₂, le-ltb, lt-ltb}
 use Rattle.base.proofs.Picks.{pick_yes, pick_no}
 use Rattle.reads.specs.Reads.{with_sample, begun, kept}
 use Rattle.reads.proofs.looks.kept.Goals as goal

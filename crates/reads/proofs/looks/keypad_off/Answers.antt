@@ -1,6 +1,6 @@
 -- `reads::looks::keypad_off` meets its contract.
 -- Assumes nothing.
-use Rattle.std.proofs.Common.{sym, ap, ◌∙◌, rules}
+use Rattle.std.proofs.Common.{sym, ap, ◌∙◌}
 use Rattle.reads.specs.declared.Dout.{Dout}
 use Rattle.reads.specs.Reads.{keypad_off}
 use Rattle.reads.proofs.looks.keypad_off.Goals as goal

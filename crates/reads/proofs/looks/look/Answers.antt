@@ -1,6 +1,6 @@
 -- `reads::looks::look` meets its contract.
 -- Assumes nothing.
-use Rattle.std.proofs.Common.{◌&&◌, sym, ap, ◌∙◌, ap₂, rules}
+use Rattle.std.proofs.Common.{◌&&◌, sym, ap, ◌∙◌, ap₂}
 use Rattle.base.proofs.Picks.{pick_yes, pick_no}
 use Rattle.reads.specs.Reads.{is_edge, looked}
 use Rattle.reads.proofs.looks.look.Goals as goal

@@ -1,6 +1,6 @@
 -- `reads::looks::outside` meets its contract.
 -- Assumes nothing.
-use Rattle.std.proofs.Common.{false, sym, ap, ◌∙◌, rules}
+use Rattle.std.proofs.Common.{false, sym, ap, ◌∙◌}
 use Rattle.reads.specs.declared.Dout.{Dout}
 use Rattle.reads.specs.Reads.{with_quiet, tells, outside}
 use Rattle.reads.proofs.looks.outside.Goals as goal

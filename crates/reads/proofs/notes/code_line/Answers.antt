@@ -1,6 +1,6 @@
 -- `reads::notes::code_line` meets its contract.
 -- Assumes nothing.
-use Rattle.std.proofs.Common.{[], ◌∷◌, refl, arith, rules}
+use Rattle.std.proofs.Common.{[], ◌∷◌, refl, arith}
 use Rattle.capture.proofs.Reported.{line_put}
 use Rattle.reads.specs.declared.Note.TheVariants.{Code}
 use Rattle.reads.proofs.Looking.{note_length}

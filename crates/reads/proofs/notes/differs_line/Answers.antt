@@ -1,6 +1,6 @@
 -- `reads::notes::differs_line` meets its contract.
 -- Assumes nothing.
-use Rattle.std.proofs.Common.{◌∷◌, sym, ap, arith, rules}
+use Rattle.std.proofs.Common.{◌∷◌, sym, ap, arith}
 use Rattle.lines.specs.Lines.{line_for}
 use Rattle.capture.proofs.Reported.{line_put}
 use Rattle.reads.specs.declared.Note.TheVariants.{Differs}

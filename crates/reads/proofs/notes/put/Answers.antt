@@ -1,6 +1,6 @@
 -- `reads::notes::put` meets its contract: each of its arms writes the line of its case.
 -- Assumes nothing.
-use Rattle.std.proofs.Common.{ap, rules}
+use Rattle.std.proofs.Common.{ap}
 use Rattle.capture.proofs.Reported.{none_put, puts_as}
 use Rattle.reads.specs.declared.Note.{Note}
 use Rattle.reads.specs.Notes.{note_line}

@@ -4,7 +4,6 @@ use mathlib.Core.Path.{ap, sym, ◌∙◌}
 use Rattle.base.specs.Refusals.{verdict_tells}
 use Rattle.wires.specs.Frames.{passed}
 use Rattle.wires.proofs.Forms.{samples_few, samples_many, samples_kind, samples_tested}
-use borrow.Author.Rules.{rules}
 use Rattle.wires.proofs.frames.is_samples.Goals as goal
 
 pub returns-then-bytes-lt2 : goal.returns-then-bytes-lt2

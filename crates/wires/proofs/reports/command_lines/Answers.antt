@@ -10,7 +10,6 @@ use Rattle.base.proofs.Picks.{pick_yes, pick_no}
 use Rattle.capture.proofs.Reported.{none_put, puts_as, line_put}
 use Rattle.lines.specs.Lines.{line_for}
 use Rattle.lines.proofs.Puts.{puts_room, puts_both}
-use borrow.Author.Rules.{rules}
 use Rattle.wires.proofs.reports.command_lines.Goals as goal
 
 pub returns-then-not-read : goal.returns-then-not-read

@@ -6,7 +6,6 @@ use Prim.Native.Nat.{◌+◌, ◌≤◌}
 use lib.ListN.{length}
 use Rattle.capture.proofs.Reported.{none_put, puts_as}
 use Rattle.wires.proofs.Reported.{by_nothing, by_bytes}
-use borrow.Author.Rules.{rules}
 use Rattle.wires.proofs.reports.transfer.Goals as goal
 
 pub obeyed-requires : goal.obeyed-requires

@@ -2,14 +2,11 @@
 -- and ends as the whole does.
 -- Assumes nothing.
 use Prim.Native.Nat.{◌-◌}
-use native.Mathlib.Omega.{arith}
-use borrow.Author.Tests.{not-true, not-false}
 use lib.ListN.{length, drop}
-use Rattle.capture.proofs.Walks.{Walks, walks_start, walks_over, cut_room, walks_cut, walks_count, walks_room, walks_refusal_room, walks_refused, walks_more}
+use Rattle.capture.proofs.Walks.{Walks}
 use Rattle.lines.specs.Lines.{lines_of}
 use Rattle.wires.specs.Replay.{lines_out, lines_end}
-use Rattle.wires.proofs.Walked.{takes_line, line_reader, lines_walked, ends_walked}
-use borrow.Author.Rules.{rules}
+use Rattle.wires.proofs.Walked.{takes_line}
 use Rattle.wires.proofs.walk.lines.Given as goal
 
 abbrev pub invariant-loop-place : goal.invariant-loop-place

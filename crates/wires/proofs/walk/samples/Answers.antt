@@ -1,10 +1,7 @@
 -- `wires::walk::samples` meets its contract. The invariant is `Going`: what is left makes the whole.
 -- Assumes nothing.
-use Prim.Native.Nat.{◌-◌}
-use lib.ListN.{length}
 use Rattle.ch450.proofs.Stretches.{stretch_fewer}
-use Rattle.wires.proofs.Samples.{Going, going_start, turn_room, turn_again, going_over}
-use borrow.Author.Rules.{rules}
+use Rattle.wires.proofs.Samples.{going_start, turn_room, turn_again, going_over}
 use Rattle.wires.proofs.walk.samples.Goals as goal
 
 pub loop-i-init : goal.loop-i-init

@@ -2,9 +2,7 @@
 -- Assumes nothing.
 use Prim.Native.Nat.{◌-◌}
 use lib.ListN.{length}
-use Rattle.ch450.proofs.Stretches.{stretch_fewer}
-use Rattle.wires.proofs.Samples.{Going, going_start, turn_room, turn_again, going_over}
-use borrow.Author.Rules.{rules}
+use Rattle.wires.proofs.Samples.{Going}
 use Rattle.wires.proofs.walk.samples.Given as goal
 
 abbrev pub invariant-loop-i : goal.invariant-loop-i

@@ -8,7 +8,6 @@ use Rattle.capture.proofs.Firsts.{piece_room}
 use Rattle.capture.proofs.Reported.{refusal_length}
 use Rattle.lines.proofs.Puts.{put_whole}
 use Rattle.wires.proofs.Firsts.{long_out_lem, none_out, replays_so, begun_more, begun_out}
-use borrow.Author.Rules.{rules}
 use Rattle.wires.proofs.walk.whole.Goals as goal
 
 pub returns-then-text-gt-LONGEST : goal.returns-then-text-gt-LONGEST

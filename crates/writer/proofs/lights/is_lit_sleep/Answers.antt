@@ -5,7 +5,6 @@ use mathlib.Core.Bool.{Bool}
 use Rattle.writer.specs.declared.lights.Lights.{Lights}
 use Rattle.writer.specs.declared.lights.Lights.TheVariants.{Off, On, Asleep, Unsaid}
 use Rattle.writer.specs.Lights.{Said, said_in, lit_sleep}
-use borrow.Author.Rules.{rules}
 use Rattle.writer.proofs.lights.is_lit_sleep.Goals as goal
 
 -- by what the command was found to say

@@ -2,7 +2,6 @@
 -- Assumes nothing.
 use mathlib.Core.Path.{ap, sym, ◌∙◌}
 use Rattle.writer.specs.Lights.{said_by_command}
-use borrow.Author.Rules.{rules}
 use Rattle.writer.proofs.lights.lights_by_command.Goals as goal
 
 pub returns-in-SystemParameters : goal.returns-in-SystemParameters

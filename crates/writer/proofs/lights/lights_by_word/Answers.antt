@@ -3,7 +3,6 @@
 use mathlib.Core.Path.{ap, sym, ◌∙◌}
 use Rattle.word.specs.Answers.{decoded_tells}
 use Rattle.writer.specs.Lights.{said_by_meaning}
-use borrow.Author.Rules.{rules}
 use Rattle.writer.proofs.lights.lights_by_word.Goals as goal
 
 pub returns-in-Refused : goal.returns-in-Refused

@@ -2,8 +2,8 @@
 -- Assumes nothing.
 use mathlib.Core.Path.{◌≡◌, ap, sym, ◌∙◌}
 use mathlib.Core.List.{List}
-use Prim.Native.Nat.{ℕ, ◌+◌, ◌-◌, ◌*◌, ◌/◌, ◌%◌, ◌≤◌, ◌<◌}
-use native.Mathlib.Nat.{sub-zero, div-le_self}
+use Prim.Native.Nat.{ℕ, ◌+◌, ◌-◌, ◌*◌, ◌/◌, ◌%◌, ◌<◌}
+use native.Mathlib.Nat.{sub-zero}
 use native.Mathlib.Omega.{arith}
 use Rattle.writer.specs.declared.lights.Lights.{Lights}
 use Rattle.writer.specs.declared.lights.Lights.TheVariants.{Off, On, Asleep, Unsaid}
@@ -24,7 +24,7 @@ said : (n place passed : ℕ) (words : List ℕ) (found says : Lights) → passe
     → off_before n words (place % n) (place / n - passed) ≡ off_before n words (place % n) (place / n)
     → found ≡ says
     → off_after (said_in says) (off_before n words (place % n) (place / n - (passed + 1))) ≡ off_before n words (place % n) (place / n)
-said n place passed words found says more told so e = 
+said n place passed words found says more told so e =
     off_found n words (place % n) (place / n) passed more (said_in says) (ap said_in (sym e) ∙ told) ∙ so
 
 pub loop-passed-init : goal.loop-passed-init
