@@ -3,7 +3,8 @@
  * their text read and written, and the rows that set a panel to them; and, named zhaqsumir_ch450_, those for the one CH450 of an old kiosk:
  * its words, its writer, and a panel that is played.
  *
- * Link target/staticlib/libzhaqsumir.a, which `rt staticlib zhaqsumir` makes, for x86-64 Linux. C11 or C++11; no other header is needed.
+ * Link libzhaqsumir.a, for x86-64 Linux: a copy of crates/zhaqsumir_c/out/libzhaqsumir_c.a, which `rt lib` makes in crates/zhaqsumir_c. C11
+ * or C++11; no other header is needed.
  * "Document 01" is the requirements, and its words are used: a word is a 12-bit command of a CH452, a sample is the three wires at one
  * moment, N is the number of chips in the chain, a row is one word for each chip. A CH450 is alone on two wires: its word is the two bytes
  * of a command, byte 1 high, and its sample is these two wires.

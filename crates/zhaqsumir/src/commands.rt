@@ -7,7 +7,7 @@ ghost use Rattle.zhaqsumir.specs.Commands as C;
 use word::{Command, Display, System};
 
 // A command of six numbers; refused where there is no such kind, or a field is out of range.
-#[derive(Drop)]
+#[derive(Clone, Copy)]
 pub(crate) enum Given {
     Is(Command),
     Refused,

@@ -61,32 +61,21 @@ fn rows(numbers: &[u64; SETTINGS], words: &mut [u16; settings::WORDS]) -> [u64; 
 }
 
 // Reads a settings text: number, place, and the settings as 73 numbers.
-#[unsafe(no_mangle)]
-pub extern "C" fn zhaqsumir_settings_read(text: &[u8], answer: &mut [u64; 75])
+pub fn zhaqsumir_settings_read(text: &[u8], answer: &mut [u64; 75])
     ensures { answer.new ≡ S.read_numbers text.now }
 {
     *answer = told(settings::read(text));
 }
 
 // Writes settings, given as 73 numbers, as text: number, place, how many bytes.
-#[unsafe(no_mangle)]
-pub extern "C" fn zhaqsumir_settings_write(
-    settings: &[u64; 73],
-    out: &mut [u8],
-    answer: &mut [u64; 3],
-)
+pub fn zhaqsumir_settings_write(settings: &[u64; 73], out: &mut [u8], answer: &mut [u64; 3])
     ensures { S.WritesSettings settings.now out.old answer.new out.new }
 {
     *answer = write(settings, out);
 }
 
 // Turns settings, given as 73 numbers, into the words of four rows: number, place, how many words.
-#[unsafe(no_mangle)]
-pub extern "C" fn zhaqsumir_settings_rows(
-    settings: &[u64; 73],
-    words: &mut [u16; 32],
-    answer: &mut [u64; 3],
-)
+pub fn zhaqsumir_settings_rows(settings: &[u64; 73], words: &mut [u16; 32], answer: &mut [u64; 3])
     ensures { S.FillsWords settings.now words.old answer.new words.new }
 {
     *answer = rows(settings, words);

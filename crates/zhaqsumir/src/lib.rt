@@ -1,7 +1,9 @@
-// The till's own library: the proved functions for C to link. Each takes numbers and slices, and answers by numbers in a lent array: a
-// refusal's number and place, 0 and 0 where there is none, then the answer, zeros where it is refused. A replay counts the bytes that it
-// wrote either way; a tally and the panel of a CH450 are lent as numbers, that of CH452 chips as a struct of numbers, and go on.
-// include/zhaqsumir.h is their header.
+// The till's own library: the proved functions that C links, which the crate `zhaqsumir_c` exports under their names. Each takes numbers and
+// slices, and answers by numbers in a lent array: a refusal's number and place, 0 and 0 where there is none, then the answer, zeros where it
+// is refused. A replay counts the bytes that it wrote either way; a tally and the panel of a CH450 are lent as numbers, that of CH452 chips
+// as a struct of numbers, and go on. include/zhaqsumir.h is their header.
+#![tactic(auto)]
+
 mod chains;
 mod chips;
 mod commands;
@@ -138,16 +140,14 @@ fn replayed(r: Replayed) -> [u64; 3]
 }
 
 // What a word means: number, place, kind, five fields.
-#[unsafe(no_mangle)]
-pub extern "C" fn zhaqsumir_decode(word: u16, answer: &mut [u64; 8])
+pub fn zhaqsumir_decode(word: u16, answer: &mut [u64; 8])
     ensures { answer.new ≡ N.decode_numbers word }
 {
     *answer = decoded(word::decode(word));
 }
 
 // The word of a command, given as kind and five fields: number, place, word.
-#[unsafe(no_mangle)]
-pub extern "C" fn zhaqsumir_encode(command: &[u64; 6], answer: &mut [u64; 3])
+pub fn zhaqsumir_encode(command: &[u64; 6], answer: &mut [u64; 3])
     ensures { answer.new ≡ N.encode_numbers command.now }
 {
     *answer = given(commands::command_from(
@@ -156,36 +156,28 @@ pub extern "C" fn zhaqsumir_encode(command: &[u64; 6], answer: &mut [u64; 3])
 }
 
 // Writes rows of words, chip 0 first in each row: number, place, how many samples.
-#[unsafe(no_mangle)]
-pub extern "C" fn zhaqsumir_write(n: usize, words: &[u16], out: &mut [u8], answer: &mut [u64; 3])
+pub fn zhaqsumir_write(n: usize, words: &[u16], out: &mut [u8], answer: &mut [u64; 3])
     ensures { N.WritesNumbers n words.now out.old answer.new out.new }
 {
     *answer = written(writer::write(n, words, out));
 }
 
 // Looks for the next LOAD rise: number, place, 1 where there is one, its place, how many samples were passed.
-#[unsafe(no_mangle)]
-pub extern "C" fn zhaqsumir_find(levels: u8, samples: &[u8], answer: &mut [u64; 5])
+pub fn zhaqsumir_find(levels: u8, samples: &[u8], answer: &mut [u64; 5])
     ensures { answer.new ≡ N.find_numbers levels samples.now }
 {
     *answer = found(chain::finder::next_rise(levels, samples));
 }
 
 // Replays a capture text: number, line, how many bytes stand at the front of `out`.
-#[unsafe(no_mangle)]
-pub extern "C" fn zhaqsumir_replay(
-    text: &[u8],
-    out: &mut [u8; capture::WORDS_ROOM],
-    answer: &mut [u64; 3],
-)
+pub fn zhaqsumir_replay(text: &[u8], out: &mut [u8; capture::WORDS_ROOM], answer: &mut [u64; 3])
     ensures { N.ReplaysNumbers text.now out.old answer.new out.new }
 {
     *answer = replayed(capture::replay(text, out));
 }
 
 // Counts a capture text, and goes on from the tally that is lent: number, line.
-#[unsafe(no_mangle)]
-pub extern "C" fn zhaqsumir_tally(
+pub fn zhaqsumir_tally(
     text: &[u8],
     chips: &mut [u64; 32],
     codes: &mut [u64; 128],
@@ -211,8 +203,7 @@ pub extern "C" fn zhaqsumir_tally(
 }
 
 // The word of a CH450 command, given as kind and four fields: number, place, word.
-#[unsafe(no_mangle)]
-pub extern "C" fn zhaqsumir_ch450_encode(command: &[u64; 5], answer: &mut [u64; 3])
+pub fn zhaqsumir_ch450_encode(command: &[u64; 5], answer: &mut [u64; 3])
     ensures { answer.new ≡ T.ch450_word command.now }
 {
     *answer = two_wires::word_of(two_wires::command_from(
@@ -221,21 +212,14 @@ pub extern "C" fn zhaqsumir_ch450_encode(command: &[u64; 5], answer: &mut [u64; 
 }
 
 // Writes CH450 commands, given as words: number, place, how many samples.
-#[unsafe(no_mangle)]
-pub extern "C" fn zhaqsumir_ch450_write(words: &[u16], out: &mut [u8], answer: &mut [u64; 3])
+pub fn zhaqsumir_ch450_write(words: &[u16], out: &mut [u8], answer: &mut [u64; 3])
     ensures { T.Ch450Writes words.now out.old answer.new out.new }
 {
     *answer = two_wires::written(ch450::writer::write(words, out));
 }
 
 // Plays samples into the CH450 panel that is lent as numbers: number, place, how many times the key was read.
-#[unsafe(no_mangle)]
-pub extern "C" fn zhaqsumir_ch450_play(
-    panel: &mut [u64; 14],
-    key: u8,
-    samples: &[u8],
-    answer: &mut [u64; 3],
-)
+pub fn zhaqsumir_ch450_play(panel: &mut [u64; 14], key: u8, samples: &[u8], answer: &mut [u64; 3])
     ensures { T.Ch450Plays panel.old key samples.now answer.new panel.new }
 {
     let after = two_wires::play(panel, key, samples);
@@ -246,16 +230,14 @@ pub extern "C" fn zhaqsumir_ch450_play(
 }
 
 // The segments that a CH450 panel lights: number, place, six bytes.
-#[unsafe(no_mangle)]
-pub extern "C" fn zhaqsumir_ch450_lit(panel: &[u64; 14], answer: &mut [u64; 8])
+pub fn zhaqsumir_ch450_lit(panel: &[u64; 14], answer: &mut [u64; 8])
     ensures { answer.new ≡ T.ch450_lit panel.now }
 {
     *answer = two_wires::lit(panel);
 }
 
 // Starts a CH452 panel of n chips in the 202 numbers lent: number, place.
-#[unsafe(no_mangle)]
-pub extern "C" fn zhaqsumir_start(n: usize, panel: &mut [u64; 202], answer: &mut [u64; 2])
+pub fn zhaqsumir_start(n: usize, panel: &mut [u64; 202], answer: &mut [u64; 2])
     ensures { P.StartsNumbers n panel.old answer.new panel.new }
 {
     *answer = panels::start(n, panel);
@@ -263,21 +245,14 @@ pub extern "C" fn zhaqsumir_start(n: usize, panel: &mut [u64; 202], answer: &mut
 
 // Plays a block of samples into the panel that is lent, and changes it in place; the places of its LOAD rises go to the list: number,
 // place, how many rises.
-#[unsafe(no_mangle)]
-pub extern "C" fn zhaqsumir_block(
-    panel: &mut Panel,
-    samples: &[u8],
-    rises: &mut [u64],
-    answer: &mut [u64; 3],
-)
+pub fn zhaqsumir_block(panel: &mut Panel, samples: &[u8], rises: &mut [u64], answer: &mut [u64; 3])
     ensures { P.BlocksNumbers panel.old.numbers samples.now rises.old answer.new panel.new.numbers rises.new }
 {
     *panel = panels::block(*panel, samples, rises, answer);
 }
 
 // Scans a chip of the panel that is lent as numbers, with the contacts closed: number, place, what was recorded, its code.
-#[unsafe(no_mangle)]
-pub extern "C" fn zhaqsumir_scan(
+pub fn zhaqsumir_scan(
     panel: &mut [u64; 202],
     chip: usize,
     contacts: &[u8; 8],
@@ -289,16 +264,14 @@ pub extern "C" fn zhaqsumir_scan(
 }
 
 // The segments that a chip of a panel lights: number, place, eight bytes.
-#[unsafe(no_mangle)]
-pub extern "C" fn zhaqsumir_lit(panel: &[u64; 202], chip: usize, answer: &mut [u64; 10])
+pub fn zhaqsumir_lit(panel: &[u64; 202], chip: usize, answer: &mut [u64; 10])
     ensures { answer.new ≡ P.lit_numbers panel.now chip }
 {
     *answer = panels::lit(panel, chip);
 }
 
 // What the host sees of a panel: number, place, the level of the last chip's DOUT.
-#[unsafe(no_mangle)]
-pub extern "C" fn zhaqsumir_sees(panel: &[u64; 202], answer: &mut [u64; 3])
+pub fn zhaqsumir_sees(panel: &[u64; 202], answer: &mut [u64; 3])
     ensures { answer.new ≡ P.sees_numbers panel.now }
 {
     *answer = panels::sees(panel);

@@ -25,7 +25,7 @@ pub(crate) const PANEL: usize = 2 + CHIP * chain::MOST;
 
 // A panel, as `zhaqsumir_block` is lent one.
 #[repr(C)]
-#[derive(Drop)]
+#[derive(Clone, Copy)]
 pub struct Panel {
     pub numbers: [u64; PANEL],
 }

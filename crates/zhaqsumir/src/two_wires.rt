@@ -13,14 +13,14 @@ use ch450::writer::Written;
 use ch450::{Command, Lit, Panel, Settings, Wires};
 
 // A command of five numbers; refused where there is no such kind, or a field is out of range.
-#[derive(Drop)]
+#[derive(Clone, Copy)]
 pub(crate) enum Asked {
     Is(Command),
     Refused,
 }
 
 // A panel's numbers after a block of samples, and those of the answer.
-#[derive(Drop)]
+#[derive(Clone, Copy)]
 pub(crate) struct After {
     pub(crate) panel: [u64; 14],
     pub(crate) answer: [u64; 3],
