@@ -16,7 +16,8 @@ use Rattle.zhaqsumir.proofs.zhaqsumir_ch450_write
 use Rattle.zhaqsumir.proofs.zhaqsumir_ch450_play
 use Rattle.zhaqsumir.proofs.zhaqsumir_ch450_lit
 use Rattle.zhaqsumir.proofs.zhaqsumir_start
-use Rattle.zhaqsumir.specs.contracts.zhaqsumir_block
+use Rattle.zhaqsumir.specs.contracts.zhaqsumir_block as Block
+use Rattle.zhaqsumir.proofs.zhaqsumir_block
 use Rattle.zhaqsumir.proofs.zhaqsumir_scan
 use Rattle.zhaqsumir.proofs.zhaqsumir_lit
 use Rattle.zhaqsumir.proofs.zhaqsumir_sees
@@ -81,15 +82,19 @@ pub zhaqsumir_sees_unique : AllowsOne zhaqsumir_sees.Kinds.ps zhaqsumir_sees.Kin
 zhaqsumir_sees_unique κs a x y last last' p q = (refl, λ i. (tt, (same_answer p q i, tt)))
 
 -- the panel lent by `&mut`
-pub zhaqsumir_block_unique : AllowsOneWalked zhaqsumir_block.ended (λ M 𝓤 𝓛. zhaqsumir_block.clauses 𝓛)
-zhaqsumir_block_unique =
+pub zhaqsumir_block_unique : AllowsOne zhaqsumir_block.Kinds.ps zhaqsumir_block.Kinds.r zhaqsumir_block.Reads.Learnt
+zhaqsumir_block_unique κs a x y last last' p q = (
+  refl,
+  λ i. (record { numbers = same_answer p.panel q.panel i }, (tt, (same_answer p.places q.places i, (same_answer p.numbers q.numbers i, tt)))),
+)
+
+-- its last panel, list and answer are told by the clause itself, whatever the logic's other arguments are
+pub zhaqsumir_block_clauses_unique : AllowsOneWalked Block.ended (λ M 𝓤 𝓛. Block.clauses 𝓛)
+zhaqsumir_block_clauses_unique =
     record {
       learnt = λ κs a x s. BlocksNumbers a.0.now.numbers a.1.0.now a.1.1.0.now s.1.1.1.0.now s.0.now.numbers s.1.1.0.now;
       says = λ M 𝓤 𝓛 mem run κs a g x s. refl;
-      one = λ κs a x y last last' p q. (
-        refl,
-        λ i. (record { numbers = same_answer p.panel q.panel i }, (tt, (same_answer p.places q.places i, (same_answer p.numbers q.numbers i, tt)))),
-      );
+      one = zhaqsumir_block_unique;
     }
 
 -- and the same by value, which does the work

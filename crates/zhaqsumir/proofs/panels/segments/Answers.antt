@@ -1,0 +1,17 @@
+-- `zhaqsumir::panels::segments` meets its contract: the verdict's number and place, and eight bytes.
+-- Assumes nothing.
+use mathlib.Core.List.{◌∷◌}
+use mathlib.Core.Path.{◌≡◌, ◌∙◌}
+use lib.ListN.{length}
+use Rattle.zhaqsumir.proofs.Counts.{all_places}
+use borrow.Author.Rules.{rules}
+use Rattle.zhaqsumir.proofs.panels.segments.Goals as goal
+
+pub returns : goal.returns
+returns c =
+    let w = c.wide-lights in
+    let eight : length w.result ≡ 8 = search rules in
+    λ i.
+    c.verdict_number.ensures i
+    ∷ c.verdict_place.ensures i
+    ∷ (all_places 0 8 w.result eight ∙ w.ensures) i
