@@ -5,7 +5,6 @@ use mathlib.Core.List.{[], ◌∷◌}
 use Rattle.word.specs.declared.Decoded.{Decoded}
 use Rattle.word.specs.Answers.{decoded_tells}
 use Rattle.zhaqsumir.specs.Numbers.{decode_by}
-use borrow.Author.Rules.{rules}
 use Rattle.zhaqsumir.proofs.decoded.Goals as goal
 
 pub returns-in-Means : goal.returns-in-Means

@@ -5,7 +5,6 @@ use mathlib.Core.List.{[], ◌∷◌}
 use Rattle.word.specs.declared.Encoded.{Encoded}
 use Rattle.word.specs.Answers.{encoded_tells}
 use Rattle.zhaqsumir.specs.Numbers.{alone}
-use borrow.Author.Rules.{rules}
 use Rattle.zhaqsumir.proofs.encoded.Goals as goal
 
 pub returns-in-Word : goal.returns-in-Word

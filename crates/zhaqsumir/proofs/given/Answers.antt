@@ -4,7 +4,6 @@ use mathlib.Core.Path.{ap, sym, ◌∙◌}
 use Rattle.zhaqsumir.specs.declared.commands.Given.{Given}
 use Rattle.zhaqsumir.specs.Commands.{given_tells}
 use Rattle.zhaqsumir.specs.Numbers.{alone, encoded_by}
-use borrow.Author.Rules.{rules}
 use Rattle.zhaqsumir.proofs.given.Goals as goal
 
 pub returns-in-Is : goal.returns-in-Is

@@ -5,7 +5,6 @@ use mathlib.Core.List.{[], ◌∷◌}
 use Rattle.writer.specs.declared.Written.{Written}
 use Rattle.writer.specs.Written.{written_tells}
 use Rattle.zhaqsumir.specs.Numbers.{alone}
-use borrow.Author.Rules.{rules}
 use Rattle.zhaqsumir.proofs.written.Goals as goal
 
 pub returns-in-Samples : goal.returns-in-Samples

@@ -3,7 +3,6 @@
 use mathlib.Core.Path.{ap, ◌∙◌}
 use Rattle.zhaqsumir.specs.Numbers.{alone}
 use Rattle.zhaqsumir.specs.TwoWires.{word_by}
-use borrow.Author.Rules.{rules}
 use Rattle.zhaqsumir.proofs.zhaqsumir_ch450_encode.Goals as goal
 
 pub returns : goal.returns

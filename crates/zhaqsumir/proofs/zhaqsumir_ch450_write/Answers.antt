@@ -2,7 +2,6 @@
 -- Assumes nothing.
 use mathlib.Core.Path.{ap, ◌∙◌}
 use Rattle.zhaqsumir.specs.Numbers.{alone}
-use borrow.Author.Rules.{rules}
 use Rattle.zhaqsumir.proofs.zhaqsumir_ch450_write.Goals as goal
 
 pub returns : goal.returns

@@ -2,7 +2,6 @@
 -- Assumes nothing.
 use mathlib.Core.Path.{ap, ◌∙◌}
 use Rattle.zhaqsumir.specs.Numbers.{find_by}
-use borrow.Author.Rules.{rules}
 use Rattle.zhaqsumir.proofs.zhaqsumir_find.Goals as goal
 
 pub returns : goal.returns

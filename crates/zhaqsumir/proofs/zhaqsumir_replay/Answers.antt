@@ -2,7 +2,6 @@
 -- Assumes nothing.
 use mathlib.Core.Path.{ap₂, ◌∙◌}
 use Rattle.zhaqsumir.specs.Numbers.{replay_by}
-use borrow.Author.Rules.{rules}
 use Rattle.zhaqsumir.proofs.zhaqsumir_replay.Goals as goal
 
 pub returns : goal.returns

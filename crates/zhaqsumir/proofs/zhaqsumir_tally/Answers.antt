@@ -1,7 +1,6 @@
 -- `zhaqsumir_tally` meets its contract: the numbers of what `count` answers to the tally that the numbers lent stand for.
 -- Assumes nothing.
 use Rattle.zhaqsumir.proofs.Counts.{tally_numbers}
-use borrow.Author.Rules.{rules}
 use Rattle.zhaqsumir.proofs.zhaqsumir_tally.Goals as goal
 
 pub returns : goal.returns

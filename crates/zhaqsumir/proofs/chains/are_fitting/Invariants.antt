@@ -1,16 +1,10 @@
 -- `zhaqsumir::chains::are_fitting` meets its contract. The invariant: the numbers of the chips before this one fit.
 -- Assumes nothing.
-use mathlib.Core.Path.{◌≡◌, refl, ap, ap₂, sym, subst, ◌∙◌}
-use mathlib.Core.Bool.{true, ◌&&◌}
-use Prim.Native.Nat.{ℕ, ◌+◌, ◌*◌, ◌-◌, ◌≤◌}
-use native.Mathlib.Numerals.{add-one}
-use native.Mathlib.Omega.{arith}
-use borrow.Author.Tests.{not-true, not-false}
+use mathlib.Core.Path.{◌≡◌}
+use mathlib.Core.Bool.{true}
+use Prim.Native.Nat.{◌-◌, ◌≤◌}
 use Rattle.base.specs.Below.{below}
-use Rattle.zhaqsumir.specs.Panels.{chip_fits, chip_fits_in}
-use Rattle.zhaqsumir.proofs.ChainRows.{part_rest}
-use Rattle.zhaqsumir.proofs.Fitting.{not_below}
-use borrow.Author.Rules.{rules}
+use Rattle.zhaqsumir.specs.Panels.{chip_fits_in}
 use Rattle.zhaqsumir.proofs.chains.are_fitting.Given as goal
 
 abbrev pub invariant-loop-k : goal.invariant-loop-k

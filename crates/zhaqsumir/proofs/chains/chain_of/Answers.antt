@@ -1,7 +1,6 @@
 -- `zhaqsumir::chains::chain_of` meets its contract: eight chips, one after another, and the levels.
 -- Assumes nothing.
 use mathlib.Core.List.{[], ◌∷◌}
-use borrow.Author.Rules.{rules}
 use Rattle.zhaqsumir.proofs.chains.chain_of.Goals as goal
 
 pub returns : goal.returns

@@ -6,7 +6,6 @@ use Rattle.base.proofs.Picks.{pick_yes, pick_no}
 use Rattle.zhaqsumir.specs.Panels.{chip_of, count_in}
 use Prim.Native.Nat.{◌+◌, ◌*◌}
 use Rattle.zhaqsumir.proofs.ChainRows.{part_rest}
-use borrow.Author.Rules.{rules}
 use Rattle.zhaqsumir.proofs.chains.chip_in.Goals as goal
 
 pub returns-then-k-n : goal.returns-then-k-n

@@ -1,13 +1,9 @@
 -- `zhaqsumir::chains::put` meets its contract. The invariant: so many of the chip's numbers are copied.
 -- Assumes nothing.
-use mathlib.Core.Path.{◌≡◌, refl, ap, sym, ◌∙◌}
-use Prim.Native.Nat.{◌+◌, ◌*◌, ◌-◌, ◌≤◌, ◌<◌}
-use native.Mathlib.Numerals.{add-one}
-use native.Mathlib.Omega.{arith}
-use lib.ListN.{length, get_or, set, length-set}
-use lib.Seq.{paste, paste-zero, paste-suc}
-use Rattle.zhaqsumir.proofs.ChainRows.{paste_placed}
-use borrow.Author.Rules.{rules}
+use mathlib.Core.Path.{◌≡◌}
+use Prim.Native.Nat.{◌-◌, ◌≤◌}
+use lib.ListN.{length}
+use lib.Seq.{paste}
 use Rattle.zhaqsumir.proofs.chains.put.Given as goal
 
 abbrev pub invariant-loop-j : goal.invariant-loop-j

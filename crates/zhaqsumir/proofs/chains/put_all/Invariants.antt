@@ -1,17 +1,11 @@
 -- `zhaqsumir::chains::put_all` meets its contract. The invariant: the numbers of the records before this one are put after N and the
 -- levels.
 -- Assumes nothing.
-use mathlib.Core.Path.{◌≡◌, refl, ap, sym, ◌∙◌}
-use mathlib.Core.List.{List, ◌∷◌, ◌++◌}
-use Prim.Native.Nat.{ℕ, ◌+◌, ◌*◌, ◌-◌, ◌≤◌}
-use native.Mathlib.Omega.{arith}
-use lib.ListN.{length, set, length-append, length-set}
-use Rattle.base.specs.Lent.{laid, placed}
-use Rattle.base.proofs.Lent.{placed_none}
-use Rattle.base.proofs.Lists.{length_mapped}
+use mathlib.Core.Path.{◌≡◌}
+use Prim.Native.Nat.{◌*◌, ◌-◌, ◌≤◌}
+use lib.ListN.{length}
+use Rattle.base.specs.Lent.{placed}
 use Rattle.zhaqsumir.specs.Panels.{row_numbers}
-use Rattle.zhaqsumir.proofs.ChainRows.{rows_more, rows_past, chip_put, head_put}
-use borrow.Author.Rules.{rules}
 use Rattle.zhaqsumir.proofs.chains.put_all.Given as goal
 
 abbrev pub invariant-loop-k : goal.invariant-loop-k

@@ -11,7 +11,6 @@ use Rattle.base.specs.Below.{below}
 use Rattle.base.proofs.Picks.{pick_yes, pick_no}
 use Rattle.chain.proofs.Tested.{count_high}
 use Rattle.zhaqsumir.specs.Panels.{chip_fits_in, count_in}
-use borrow.Author.Rules.{rules}
 use Rattle.zhaqsumir.proofs.chains.tested.Goals as goal
 
 pub returns-then-not-is_count : goal.returns-then-not-is_count

@@ -1,6 +1,5 @@
 -- `zhaqsumir::chips::chip_of` meets its contract: the record by its parts.
 -- Assumes nothing.
-use borrow.Author.Rules.{rules}
 use Rattle.zhaqsumir.proofs.chips.chip_of.Goals as goal
 
 pub returns : goal.returns

@@ -1,7 +1,6 @@
 -- `zhaqsumir::chips::digits_of` meets its contract: eight bytes, one after another.
 -- Assumes nothing.
 use mathlib.Core.List.{[], ◌∷◌}
-use borrow.Author.Rules.{rules}
 use Rattle.zhaqsumir.proofs.chips.digits_of.Goals as goal
 
 pub returns : goal.returns

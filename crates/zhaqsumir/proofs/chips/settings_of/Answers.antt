@@ -1,6 +1,5 @@
 -- `zhaqsumir::chips::settings_of` meets its contract: each number in its field.
 -- Assumes nothing.
-use borrow.Author.Rules.{rules}
 use Rattle.zhaqsumir.proofs.chips.settings_of.Goals as goal
 
 pub returns : goal.returns

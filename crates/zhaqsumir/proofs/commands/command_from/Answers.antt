@@ -7,7 +7,6 @@ use Rattle.base.proofs.Tests.{past}
 use Rattle.word.specs.declared.Command.TheVariants.{BarLevel, SegmentClear, SegmentSet, CustomCharacter, BlinkByte}
 use Rattle.zhaqsumir.specs.Commands.{command_from}
 use Rattle.zhaqsumir.proofs.Fields.{of_kind, of_field, no_such_kind}
-use borrow.Author.Rules.{rules}
 use Rattle.zhaqsumir.proofs.commands.command_from.Goals as goal
 
 pub returns-in-0 : goal.returns-in-0

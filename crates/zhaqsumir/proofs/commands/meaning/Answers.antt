@@ -4,7 +4,6 @@ use mathlib.Core.Path.{ap, sym, ◌∙◌}
 use mathlib.Core.List.{[], ◌∷◌}
 use Rattle.word.specs.declared.Command.{Command}
 use Rattle.zhaqsumir.specs.Commands.{numbers_of}
-use borrow.Author.Rules.{rules}
 use Rattle.zhaqsumir.proofs.commands.meaning.Goals as goal
 
 pub returns-in-NoOperation : goal.returns-in-NoOperation

@@ -1,15 +1,10 @@
 -- `zhaqsumir::kept::is_fitting` meets its contract. The invariant: the numbers before this place fit.
 -- Assumes nothing.
-use mathlib.Core.Path.{◌≡◌, refl, ap, sym, subst, ◌∙◌}
+use mathlib.Core.Path.{◌≡◌}
 use mathlib.Core.Bool.{true}
-use Prim.Native.Nat.{ℕ, ◌-◌, ◌≤◌, ◌<◌}
-use native.Mathlib.Numerals.{add-one}
-use native.Mathlib.Omega.{arith}
-use lib.ListN.{get_or}
+use Prim.Native.Nat.{◌-◌, ◌≤◌}
 use Rattle.base.specs.Below.{below}
-use Rattle.zhaqsumir.specs.Settings.{kept_mosts, kept_fits_at, kept_fits}
-use Rattle.zhaqsumir.proofs.Fitting.{too_large, fits_more}
-use borrow.Author.Rules.{rules}
+use Rattle.zhaqsumir.specs.Settings.{kept_fits_at}
 use Rattle.zhaqsumir.proofs.kept.is_fitting.Given as goal
 
 abbrev pub invariant-loop-j : goal.invariant-loop-j

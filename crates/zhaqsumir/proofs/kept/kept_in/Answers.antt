@@ -4,7 +4,6 @@ use mathlib.Core.Path.{ap, ◌∙◌}
 use Prim.Native.Nat.{◌+◌, ◌*◌}
 use Rattle.zhaqsumir.specs.Settings.{kept_of}
 use Rattle.zhaqsumir.proofs.ChainRows.{part_rest}
-use borrow.Author.Rules.{rules}
 use Rattle.zhaqsumir.proofs.kept.kept_in.Goals as goal
 
 pub returns : goal.returns

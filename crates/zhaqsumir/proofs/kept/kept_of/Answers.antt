@@ -1,6 +1,5 @@
 -- `zhaqsumir::kept::kept_of` meets its contract: each number in its field.
 -- Assumes nothing.
-use borrow.Author.Rules.{rules}
 use Rattle.zhaqsumir.proofs.kept.kept_of.Goals as goal
 
 pub returns : goal.returns

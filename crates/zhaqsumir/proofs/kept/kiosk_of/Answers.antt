@@ -1,7 +1,6 @@
 -- `zhaqsumir::kept::kiosk_of` meets its contract: N, and eight chips, one after another.
 -- Assumes nothing.
 use mathlib.Core.List.{[], ◌∷◌}
-use borrow.Author.Rules.{rules}
 use Rattle.zhaqsumir.specs.Panels.{count_in}
 use Rattle.zhaqsumir.proofs.kept.kiosk_of.Goals as goal
 

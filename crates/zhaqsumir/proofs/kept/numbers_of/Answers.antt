@@ -1,7 +1,6 @@
 -- `zhaqsumir::kept::numbers_of` meets its contract: each part by its number.
 -- Assumes nothing.
 use mathlib.Core.List.{[], ◌∷◌}
-use borrow.Author.Rules.{rules}
 use Rattle.zhaqsumir.proofs.kept.numbers_of.Goals as goal
 
 pub returns : goal.returns

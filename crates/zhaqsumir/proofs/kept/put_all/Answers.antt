@@ -2,10 +2,10 @@
 -- Assumes nothing.
 use mathlib.Core.Path.{◌≡◌, refl, subst}
 use mathlib.Core.List.{List}
-use Prim.Native.Nat.{ℕ, ◌+◌, ◌-◌, ◌≤◌, ◌<◌}
+use Prim.Native.Nat.{ℕ, ◌+◌, ◌≤◌, ◌<◌}
 use native.Mathlib.Omega.{arith}
 use lib.ListN.{length, get_or}
-use Rattle.base.proofs.Lent.{Fills, fills_start}
+use Rattle.base.proofs.Lent.{fills_start}
 use Rattle.base.proofs.Lists.{length_mapped}
 use Rattle.lines.specs.Answers.{Puts}
 use Rattle.lines.proofs.Each.{lines_left, left_room, left_more, left_over}

@@ -1,19 +1,13 @@
 -- `zhaqsumir::kept::put_all` meets its contract. The invariant: the numbers of the chips left, put where the loop stands, make the whole.
 -- Assumes nothing.
-use mathlib.Core.Path.{◌≡◌, refl, subst}
+use mathlib.Core.Path.{◌≡◌}
 use mathlib.Core.List.{List}
-use Prim.Native.Nat.{ℕ, ◌+◌, ◌-◌, ◌≤◌, ◌<◌}
-use native.Mathlib.Omega.{arith}
-use lib.ListN.{length, get_or}
-use Rattle.base.proofs.Lent.{Fills, fills_start}
-use Rattle.base.proofs.Lists.{length_mapped}
-use Rattle.lines.specs.Answers.{Puts}
-use Rattle.lines.proofs.Each.{lines_left, left_room, left_more, left_over}
+use Prim.Native.Nat.{ℕ, ◌-◌}
+use lib.ListN.{length}
+use Rattle.base.proofs.Lent.{Fills}
+use Rattle.lines.proofs.Each.{lines_left}
 use Rattle.settings.specs.declared.Kept.{Kept}
-use Rattle.settings.specs.Settings.{no_kept}
-use Rattle.zhaqsumir.specs.Settings.{kept_numbers, chips_numbers}
-use Rattle.zhaqsumir.proofs.SettingsNumbers.{chips_long}
-use borrow.Author.Rules.{rules}
+use Rattle.zhaqsumir.specs.Settings.{kept_numbers}
 use Rattle.zhaqsumir.proofs.kept.put_all.Given as goal
 
 -- a chip's numbers, whichever chip it is

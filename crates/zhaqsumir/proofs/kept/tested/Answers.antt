@@ -8,7 +8,6 @@ use borrow.Author.Tests.{not-true, not-false}
 use Rattle.base.proofs.Picks.{pick_yes, pick_no}
 use Rattle.chain.proofs.Tested.{count_high}
 use Rattle.zhaqsumir.specs.Panels.{count_in}
-use borrow.Author.Rules.{rules}
 use Rattle.zhaqsumir.proofs.kept.tested.Goals as goal
 
 pub returns-then-not-is_count : goal.returns-then-not-is_count

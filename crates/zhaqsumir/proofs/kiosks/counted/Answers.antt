@@ -5,7 +5,6 @@ use mathlib.Core.List.{[], ◌∷◌}
 use Rattle.settings.specs.declared.Put.{Put}
 use Rattle.settings.specs.Putting.{put_tells}
 use Rattle.zhaqsumir.specs.Numbers.{alone}
-use borrow.Author.Rules.{rules}
 use Rattle.zhaqsumir.proofs.kiosks.counted.Goals as goal
 
 pub returns-in-Count : goal.returns-in-Count

@@ -6,7 +6,6 @@ use Rattle.chain.specs.declared.blocks.Rises.{Rises}
 use Rattle.chain.specs.Blocks.{rises_tell}
 use Rattle.zhaqsumir.specs.Numbers.{alone}
 use Rattle.zhaqsumir.specs.Panels.{chain_numbers, panel_by}
-use borrow.Author.Rules.{rules}
 use Rattle.zhaqsumir.proofs.panels.after_block.Goals as goal
 
 pub returns-in-Count : goal.returns-in-Count

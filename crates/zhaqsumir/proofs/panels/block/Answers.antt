@@ -9,7 +9,6 @@ use Rattle.chain.specs.declared.Chain.{Chain}
 use Rattle.chain.specs.Blocks.{block_of, rises_in, list_by, list_of}
 use Rattle.zhaqsumir.specs.Numbers.{alone}
 use Rattle.zhaqsumir.specs.Panels.{count_in, chain_of, chain_numbers, panel_by}
-use borrow.Author.Rules.{rules}
 use Rattle.zhaqsumir.proofs.panels.block.Goals as goal
 
 pub returns-in-Refused : goal.returns-in-Refused

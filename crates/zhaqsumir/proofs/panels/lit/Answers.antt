@@ -8,7 +8,6 @@ use Rattle.chain.specs.declared.Chain.{Chain}
 use Rattle.chain.specs.Entries.{segments_of}
 use Rattle.zhaqsumir.specs.Panels.{count_in, chain_of}
 use Rattle.zhaqsumir.specs.TwoWires.{lit_by}
-use borrow.Author.Rules.{rules}
 use Rattle.zhaqsumir.proofs.panels.lit.Goals as goal
 
 pub returns-in-Refused : goal.returns-in-Refused

@@ -8,7 +8,6 @@ use Rattle.chip.specs.Scans.{Recording}
 use Rattle.chain.specs.declared.Chain.{Chain}
 use Rattle.chain.specs.Entries.{scanned_of}
 use Rattle.zhaqsumir.specs.Panels.{count_in, chain_of, scan_by, chain_numbers, panel_by}
-use borrow.Author.Rules.{rules}
 use Rattle.zhaqsumir.proofs.panels.scan.Goals as goal
 
 pub returns-in-Refused : goal.returns-in-Refused

@@ -6,7 +6,6 @@ use mathlib.Core.List.{[], ◌∷◌}
 use Rattle.base.proofs.Refusals.{by_done, by_refusal}
 use Rattle.chain.specs.Entries.{seen_of}
 use Rattle.zhaqsumir.specs.Panels.{count_in, chain_of, sees_by}
-use borrow.Author.Rules.{rules}
 use Rattle.zhaqsumir.proofs.panels.sees.Goals as goal
 
 pub returns-in-Refused : goal.returns-in-Refused

@@ -8,7 +8,6 @@ use Rattle.chain.specs.Chain.{most}
 use Rattle.chain.specs.Entries.{started_of}
 use Rattle.zhaqsumir.specs.Numbers.{number_in, place_in}
 use Rattle.zhaqsumir.specs.Panels.{chain_numbers, panel_by}
-use borrow.Author.Rules.{rules}
 use Rattle.zhaqsumir.proofs.panels.start.Goals as goal
 
 pub returns-in-Done : goal.returns-in-Done

@@ -6,7 +6,6 @@ use Rattle.ch450.specs.declared.play.PlayAnswer.{PlayAnswer}
 use Rattle.ch450.specs.Entries.{play_tells}
 use Rattle.zhaqsumir.specs.Numbers.{alone}
 use Rattle.zhaqsumir.specs.TwoWires.{numbers_after}
-use borrow.Author.Rules.{rules}
 use Rattle.zhaqsumir.proofs.two_wires.after_block.Goals as goal
 
 pub returns-in-Reads : goal.returns-in-Reads

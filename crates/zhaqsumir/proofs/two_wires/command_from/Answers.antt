@@ -5,7 +5,6 @@ use native.Mathlib.Omega.{arith}
 use borrow.Author.Tests.{eq-eqb, ne_eqb}
 use Rattle.base.proofs.Picks.{pick_yes, pick_no}
 use Rattle.zhaqsumir.specs.TwoWires.{command_from}
-use borrow.Author.Rules.{rules}
 use Rattle.zhaqsumir.proofs.two_wires.command_from.Goals as goal
 
 pub returns-in-0 : goal.returns-in-0

@@ -5,7 +5,6 @@ use mathlib.Core.List.{[], ◌∷◌}
 use Rattle.ch450.specs.declared.commands.Encoded.{Encoded}
 use Rattle.ch450.specs.Entries.{encoded_tells}
 use Rattle.zhaqsumir.specs.Numbers.{alone}
-use borrow.Author.Rules.{rules}
 use Rattle.zhaqsumir.proofs.two_wires.encoded.Goals as goal
 
 pub returns-in-Word : goal.returns-in-Word

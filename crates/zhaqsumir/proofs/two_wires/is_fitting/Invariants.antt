@@ -1,14 +1,10 @@
 -- `zhaqsumir::two_wires::is_fitting` meets its contract. The invariant: the numbers before this place fit.
 -- Assumes nothing.
-use mathlib.Core.Path.{◌≡◌, refl, ap, sym, subst, ◌∙◌}
+use mathlib.Core.Path.{◌≡◌}
 use mathlib.Core.Bool.{true}
-use Prim.Native.Nat.{ℕ, ◌-◌, ◌≤◌}
-use native.Mathlib.Numerals.{add-one}
-use native.Mathlib.Omega.{arith}
+use Prim.Native.Nat.{◌-◌, ◌≤◌}
 use Rattle.base.specs.Below.{below}
-use Rattle.zhaqsumir.specs.TwoWires.{mosts, fits_at}
-use Rattle.zhaqsumir.proofs.Fitting.{too_large, fits_more}
-use borrow.Author.Rules.{rules}
+use Rattle.zhaqsumir.specs.TwoWires.{fits_at}
 use Rattle.zhaqsumir.proofs.two_wires.is_fitting.Given as goal
 
 abbrev pub invariant-loop-k : goal.invariant-loop-k

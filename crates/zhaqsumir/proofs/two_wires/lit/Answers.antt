@@ -6,7 +6,6 @@ use Rattle.ch450.specs.declared.Panel.{Panel}
 use Rattle.ch450.specs.Entries.{segments_of}
 use Rattle.zhaqsumir.specs.TwoWires.{lit_by, lit_from}
 use Rattle.zhaqsumir.proofs.Ch450Panels.{panel_held, panel_refused}
-use borrow.Author.Rules.{rules}
 use Rattle.zhaqsumir.proofs.two_wires.lit.Goals as goal
 
 pub returns-then-not-is_fitting : goal.returns-then-not-is_fitting

@@ -1,8 +1,6 @@
 -- `zhaqsumir::two_wires::panel_of` meets its contract: each number fits its place, so no cast cuts it.
 -- Assumes nothing.
-use mathlib.Core.Path.{refl}
 use Rattle.zhaqsumir.proofs.Ch450Panels.{under}
-use borrow.Author.Rules.{rules}
 use Rattle.zhaqsumir.proofs.two_wires.panel_of.Goals as goal
 
 pub overflow_cast-result : goal.overflow_cast-result

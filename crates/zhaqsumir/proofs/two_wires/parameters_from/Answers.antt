@@ -2,7 +2,6 @@
 -- Assumes nothing.
 use mathlib.Core.Path.{refl}
 use Rattle.zhaqsumir.proofs.Fields.{fits_in, fits_out}
-use borrow.Author.Rules.{rules}
 use Rattle.zhaqsumir.proofs.two_wires.parameters_from.Goals as goal
 
 pub returns-then-a-gt1 : goal.returns-then-a-gt1

@@ -9,7 +9,6 @@ use Rattle.ch450.specs.Entries.{played_of}
 use Rattle.zhaqsumir.specs.Numbers.{alone}
 use Rattle.zhaqsumir.specs.TwoWires.{played_by, play_of}
 use Rattle.zhaqsumir.proofs.Ch450Panels.{panel_held, panel_refused}
-use borrow.Author.Rules.{rules}
 use Rattle.zhaqsumir.proofs.two_wires.play.Goals as goal
 
 pub returns-then-not-is_fitting : goal.returns-then-not-is_fitting

@@ -4,7 +4,6 @@ use mathlib.Core.Path.{ap, sym, ◌∙◌}
 use Rattle.zhaqsumir.specs.declared.two_wires.Asked.{Asked}
 use Rattle.zhaqsumir.specs.Numbers.{alone}
 use Rattle.zhaqsumir.specs.TwoWires.{asked_tells, word_by}
-use borrow.Author.Rules.{rules}
 use Rattle.zhaqsumir.proofs.two_wires.word_of.Goals as goal
 
 pub returns-in-Is : goal.returns-in-Is

@@ -5,7 +5,6 @@ use mathlib.Core.List.{[], ◌∷◌}
 use Rattle.ch450.specs.declared.writer.Written.{Written}
 use Rattle.ch450.specs.Written.{written_tells}
 use Rattle.zhaqsumir.specs.Numbers.{alone}
-use borrow.Author.Rules.{rules}
 use Rattle.zhaqsumir.proofs.two_wires.written.Goals as goal
 
 pub returns-in-Samples : goal.returns-in-Samples
