@@ -13,7 +13,7 @@
  * the refusal names, or 0. Places count from 0 in what this call was given; only the lines of a text count from 1. What answer, out, rises
  * and the words of zhaqsumir_settings_rows held before never alters the answer. No function keeps anything between calls, has a heap or
  * calls the system, so several threads may call at once, each with its own memory; a tally or a panel that goes on from call to call is the
- * caller's memory too. Of the C library the archive needs memcpy alone.
+ * caller's memory too. Of the C library the archive needs memcpy and memset alone.
  *
  * No value is a bad call: any word, level, N, chip, field, sample, contact, count, key code, number of a panel or of settings and byte of
  * text is answered, at worst by a refusal. Bad calls are those that C allows and Rattle doesn't. They are the caller's: nothing tests them,
