@@ -29,7 +29,7 @@ use Rattle.zhaqsumir.specs.Numbers.{alone}
 use Rattle.zhaqsumir.specs.Panels.{count_in, tested_in, chain_of, chain_numbers, BlocksNumbers}
 use Rattle.zhaqsumir.proofs.ChainPanels.{numbers_back}
 use Rattle.zhaqsumir.proofs.GoesOn.{Taken, panel_after, block_stands, numbers_length, chain_next, next_length, laid_over}
-use Rattle.demands.specs.Blocks.{Sent, block, samples_of, LongEnough}
+use Rattle.demands.specs.Blocks.{Sent, block, samples_of, LongEnough, scan}
 use Rattle.demands.specs.PanelBlocks.{PanelSends, over, called, AllAnswered, places_by, panel_places, SoundPanel, PanelCutLaw, RefusedLeaves, accepted_calls, PanelCutException}
 use Rattle.demands.proofs.UnchangedPanels.{numbers_kept}
 
@@ -149,6 +149,7 @@ none_more {ns} {end} ss list {sent} answer ns' ne same a =
 
 pub panel_cut_exception : PanelCutException
 panel_cut_exception ns [] end over = (tt, (over, tt))
+panel_cut_exception ns (scan k bytes ∷ sent) end ran = elim ran [ ]
 panel_cut_exception ns (block ss list ∷ sent) end (called answer ns' list' b next) = go (get_or answer 0 0) refl (panel_cut_exception ns' sent end next)
   where
     go : (m : ℕ) → get_or answer 0 0 ≡ m → RefusedLeaves next × Alone ns' (accepted_calls next) end

@@ -5,7 +5,7 @@
 --     first_limited, long_first                   all lines of a text, by what the first says
 --     long_within, long_past                     all lines, where they are within the limit, and where they are more
 -- Assumes nothing.
-use Rattle.std.proofs.Common.{◌≡◌, ℕ, suc, ◌+◌, ◌<◌, ◌≤◌, Bool, true, false, leb, List, [], ◌∷◌, ◌++◌, length, take, refl, ap, ◌∙◌, ap₂, append_assoc, append-nil, take_all, le-leb}
+use Rattle.std.proofs.Common.{◌≡◌, ℕ, suc, ◌<◌, ◌≤◌, Bool, true, false, leb, List, [], ◌∷◌, ◌++◌, length, take, refl, ap, ◌∙◌, ap₂, append_assoc, append-nil, take_all, le-leb}
 use borrow.Author.Tests.{lt-leb}
 use lib.Dec.{leb-zero, leb-suc-zero, leb-suc-suc}
 use lib.Seq.{take-nil}

@@ -3,7 +3,7 @@
 --     raw_from_lem                where N is known: from any place inside an item on
 --     raw_head                the first three bytes, and then the items: the whole stream
 -- Assumes nothing.
-use Rattle.std.proofs.Common.{◌≡◌, ℕ, ◌+◌, ◌-◌, ◌<◌, Bool, true, false, List, [], ◌∷◌, ◌++◌, length, sym, refl, ap, ◌∙◌, arith, le-ltb, eq-eqb, ne_eqb}
+use Rattle.std.proofs.Common.{◌≡◌, ℕ, ◌-◌, ◌<◌, Bool, true, false, List, [], ◌∷◌, ◌++◌, length, sym, refl, ap, ◌∙◌, arith, le-ltb, eq-eqb, ne_eqb}
 use Rattle.base.proofs.Picks.{pick_yes, pick_no}
 use Rattle.base.proofs.Tests.{by_order, by_equality}
 use Rattle.chain.specs.declared.Chain.{Chain}

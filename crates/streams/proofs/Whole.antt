@@ -5,7 +5,7 @@
 --     as_replay               a text of at most 65,536 bytes: what `replay` and `screen` write of it
 --     too_many                a text of more than 2^32 - 1 lines, the first 2^32 - 1 of which are taken: what these write, and refusal 11
 -- Assumes nothing.
-use Rattle.std.proofs.Common.{◌≡◌, ℕ, suc, ◌+◌, ◌<◌, ◌≤◌, Bool, true, false, eqb, List, [], ◌∷◌, ◌++◌, length, get_or, take, sym, refl, ap, ◌∙◌, append-nil, arith, eq-eqb, ne_eqb, le-leb}
+use Rattle.std.proofs.Common.{◌≡◌, ℕ, suc, ◌<◌, ◌≤◌, Bool, true, false, eqb, List, [], ◌∷◌, ◌++◌, length, get_or, take, sym, refl, ap, ◌∙◌, append-nil, arith, eq-eqb, ne_eqb, le-leb}
 use Rattle.base.specs.Pick.{pick}
 use Rattle.base.specs.Refusals.{done}
 use Rattle.base.proofs.Picks.{pick_yes, pick_no}

@@ -19,7 +19,7 @@ use Rattle.base.proofs.Picks.{pick_cases}
 use Rattle.chip.specs.declared.Chip.{Chip}
 use Rattle.chip.specs.Record.{Body, body_of}
 use Rattle.chip.specs.Edges.{din}
-use Rattle.chip.specs.Scans.{result, scanned, recorded}
+use Rattle.chip.specs.Scans.{result, scanned}
 use Rattle.chip.specs.Commands.{applied}
 use Rattle.chip.specs.History.{Step, told, scan, after, records_of, count_of, times}
 use Rattle.chip.proofs.Quiet.{body_applied, body_scanned, recorded_body}

@@ -16,7 +16,7 @@ use Rattle.chip.specs.declared.Chip.{Chip}
 use Rattle.chip.specs.declared.Keys.{Keys}
 use Rattle.chip.specs.Record.{valid, none, with_system, with_interrupt, with_last, with_readout, ended_readout}
 use Rattle.chip.specs.Commands.{applied, obey, reset, system, read_key, woken}
-use Rattle.chip.specs.Scans.{nothing, release_noted, new_key, both_none, code_taken, code_of, keyed, keys_record, wakes, scanned_by, recorded_by, recorded, result}
+use Rattle.chip.specs.Scans.{nothing, release_noted, new_key, both_none, code_taken, code_of, keyed, keys_record, wakes, scanned_by, recorded_by, result}
 use Rattle.chip.specs.History.{Step, told, scan, after}
 use Rattle.chip.proofs.OneScan.{by_scan}
 use Rattle.tallies.specs.declared.Counts.{Counts}

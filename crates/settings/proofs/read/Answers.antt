@@ -7,7 +7,6 @@ use Rattle.base.specs.Refusals.{hands_back}
 use Rattle.base.proofs.Picks.{pick_yes, pick_no}
 use Rattle.settings.specs.Reading.{read_of, version_in}
 use Rattle.settings.specs.Settings.{newest, no_kiosk}
-use borrow.Author.Rules.{rules}
 use Rattle.settings.proofs.read.Goals as goal
 
 pub returns-then-version-gt-NEWEST : goal.returns-then-version-gt-NEWEST

@@ -1,6 +1,6 @@
 -- `streams::begin` meets its contract: the first byte tells the form.
 -- Assumes nothing.
-use Rattle.std.proofs.Common.{sym, ap, ◌∙◌, rules}
+use Rattle.std.proofs.Common.{sym, ap, ◌∙◌}
 use Rattle.streams.specs.declared.Kind.TheVariants.{Text, Raw}
 use Rattle.streams.specs.Steps.{after, text_byte, raw_byte, steps}
 use Rattle.streams.proofs.Feeding.{writes_as, none_written, after_writes, begin_none, begin_raw, begin_text}

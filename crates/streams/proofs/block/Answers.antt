@@ -2,7 +2,6 @@
 -- Assumes nothing.
 use Rattle.streams.specs.declared.Kind.TheVariants.{Text, Raw}
 use Rattle.streams.proofs.Feeding.{writes_as, none_written, after_writes, fed_kind}
-use Rattle.std.proofs.Common.{rules}
 use Rattle.streams.proofs.block.Goals as goal
 
 pub returns-in-Unknown : goal.returns-in-Unknown

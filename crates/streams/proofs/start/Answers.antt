@@ -1,6 +1,6 @@
 -- `streams::start` meets its contract.
 -- Assumes nothing.
-use Rattle.std.proofs.Common.{ap, ◌∙◌, rules}
+use Rattle.std.proofs.Common.{ap, ◌∙◌}
 use Rattle.chain.proofs.Passed.{start_done}
 use Rattle.streams.specs.declared.Kind.TheVariants.{Unknown}
 use Rattle.streams.proofs.start.Goals as goal

@@ -1,6 +1,6 @@
 -- `streams::text_end` meets its contract: where nothing is held nothing is written, else a refusal.
 -- Assumes nothing.
-use Rattle.std.proofs.Common.{arith, rules}
+use Rattle.std.proofs.Common.{arith}
 use Rattle.lines.proofs.Puts.{put_whole}
 use Rattle.capture.proofs.Reported.{refusal_length}
 use Rattle.streams.proofs.Feeding.{end_none, end_some}

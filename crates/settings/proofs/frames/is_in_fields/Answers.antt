@@ -2,7 +2,6 @@
 -- Assumes nothing.
 use mathlib.Core.Path.{sym, ◌∙◌}
 use Rattle.settings.proofs.Tests.{fields_high, fields_two, fields_display, fields_so}
-use borrow.Author.Rules.{rules}
 use Rattle.settings.proofs.frames.is_in_fields.Goals as goal
 
 pub returns-then-field-ne0 : goal.returns-then-field-ne0

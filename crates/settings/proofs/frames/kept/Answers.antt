@@ -1,6 +1,5 @@
 -- `settings::frames::kept` meets its contract: each bit and field is the byte's.
 -- Assumes nothing.
-use borrow.Author.Rules.{rules}
 use Rattle.settings.proofs.frames.kept.Goals as goal
 
 pub returns : goal.returns

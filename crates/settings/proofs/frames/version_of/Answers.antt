@@ -4,7 +4,6 @@ use mathlib.Core.Path.{sym}
 use native.Mathlib.Omega.{arith}
 use lib.Seq.{length-take-le}
 use Rattle.settings.proofs.Tests.{version_short, version_other, version_so}
-use borrow.Author.Rules.{rules}
 use Rattle.settings.proofs.frames.version_of.Goals as goal
 
 pub returns-then-text-lt4 : goal.returns-then-text-lt4

@@ -8,7 +8,6 @@ use Rattle.settings.proofs.Bytes.{count_within}
 use Rattle.settings.proofs.OneText.{read_written}
 use Rattle.settings.proofs.Printing.{prints_so, read_done, again_so, again_refused}
 use Rattle.settings.proofs.Texts.{passes}
-use borrow.Author.Rules.{rules}
 use Rattle.settings.proofs.printed.again.Goals as goal
 
 pub refused-requires : goal.refused-requires

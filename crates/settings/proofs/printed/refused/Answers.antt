@@ -7,7 +7,6 @@ use Rattle.base.specs.Refusals.{refused, number_of, place_of}
 use Rattle.capture.proofs.Reported.{refusal_length}
 use Rattle.lines.proofs.Puts.{put_whole}
 use Rattle.settings.proofs.Printing.{prints_so}
-use borrow.Author.Rules.{rules}
 use Rattle.settings.proofs.printed.refused.Goals as goal
 
 pub returns : goal.returns

@@ -7,7 +7,7 @@ use Prim.Native.Nat.{◌+◌, ◌-◌, ◌≤◌}
 use native.Mathlib.Omega.{arith}
 use lib.ListN.{length, take, drop}
 use Rattle.lines.specs.Lines.{line_for}
-use Rattle.settings.proofs.Printing.{LinesLeft, left_start, left_over, left_within, left_few, left_progress, left_room, left_more}
+use Rattle.settings.proofs.Printing.{left_start, left_over, left_within, left_few, left_progress, left_room, left_more}
 use borrow.Author.Rules.{rules}
 use Rattle.settings.proofs.printed.sample_lines.Goals as goal
 

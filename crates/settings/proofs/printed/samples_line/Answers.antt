@@ -2,14 +2,13 @@
 -- line's bytes.
 -- Assumes nothing.
 use mathlib.Core.Path.{ap, sym}
-use Prim.Native.Nat.{◌+◌, ◌-◌, ◌≤◌}
+use Prim.Native.Nat.{◌+◌}
 use native.Mathlib.Omega.{arith}
 use lib.ListN.{length}
 use lib.Seq.{length-take-le}
 use Rattle.capture.proofs.Reported.{line_put}
 use Rattle.lines.specs.Lines.{line_for}
-use Rattle.settings.proofs.Printing.{Copied, copied_start, copied_room, copied_more, copied_over}
-use borrow.Author.Rules.{rules}
+use Rattle.settings.proofs.Printing.{copied_start, copied_room, copied_more, copied_over}
 use Rattle.settings.proofs.printed.samples_line.Goals as goal
 
 pub loop-j-init : goal.loop-j-init

@@ -3,7 +3,6 @@
 use native.Mathlib.Omega.{arith}
 use Rattle.settings.proofs.OneText.{read_written}
 use Rattle.settings.proofs.Printing.{read_done, setup_so, setup_refused}
-use borrow.Author.Rules.{rules}
 use Rattle.settings.proofs.printed.setup.Goals as goal
 
 pub refused-requires : goal.refused-requires

@@ -1,14 +1,11 @@
 -- `settings::puts::all_legal` meets its contract. The invariant: the chips left decide.
 -- Assumes nothing.
-use mathlib.Core.Path.{◌≡◌, refl, ap, sym, ◌∙◌}
-use Prim.Native.Nat.{◌-◌}
+use mathlib.Core.Path.{refl, ap, sym, ◌∙◌}
 use native.Mathlib.Omega.{arith}
 use borrow.Author.Tests.{not-true, not-false}
-use lib.ListN.{length, take, drop}
-use Rattle.base.specs.Below.{every}
+use lib.ListN.{take}
 use Rattle.base.proofs.Every.{every_step, every_stop, every_over}
 use Rattle.base.proofs.Lists.{length_mapped}
-use Rattle.chain.specs.Chain.{most}
 use Rattle.lines.proofs.Each.{front_at, front_few}
 use Rattle.settings.specs.Settings.{legal_kept}
 use borrow.Author.Rules.{rules}

@@ -10,7 +10,6 @@ use Rattle.lines.specs.Lines.{line_for}
 use Rattle.settings.specs.Settings.{chip_line}
 use Rattle.settings.proofs.Bytes.{in_range_lem}
 use Rattle.settings.proofs.Texts.{frame_length}
-use borrow.Author.Rules.{rules}
 use Rattle.settings.proofs.puts.chip_line.Goals as goal
 
 pub display_byte-requires : goal.display_byte-requires

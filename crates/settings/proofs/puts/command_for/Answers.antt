@@ -2,7 +2,6 @@
 -- Assumes nothing.
 use mathlib.Core.Path.{ap, sym}
 use Rattle.settings.specs.Settings.{command_for}
-use borrow.Author.Rules.{rules}
 use Rattle.settings.proofs.puts.command_for.Goals as goal
 
 pub returns-in-System : goal.returns-in-System

@@ -4,7 +4,6 @@ use mathlib.Core.Path.{ap}
 use Prim.Native.Nat.{◌+◌, ◌*◌}
 use native.Mathlib.Omega.{arith}
 use Rattle.base.proofs.Cuts.{bit_value_lt}
-use borrow.Author.Rules.{rules}
 use Rattle.settings.proofs.puts.display_byte.Goals as goal
 
 pub overflow_cast-result : goal.overflow_cast-result

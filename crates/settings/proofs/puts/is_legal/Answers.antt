@@ -6,7 +6,6 @@ use borrow.Author.Tests.{not-true, not-false}
 use Rattle.word.specs.Words.{legal}
 use Rattle.settings.specs.Settings.{command_for}
 use Rattle.settings.specs.declared.Part.TheVariants as Parts
-use borrow.Author.Rules.{rules}
 use Rattle.settings.proofs.puts.is_legal.Goals as goal
 
 pub returns-then-not-is_legal : goal.returns-then-not-is_legal

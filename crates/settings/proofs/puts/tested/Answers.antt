@@ -5,7 +5,6 @@ use borrow.Author.Tests.{not-true, not-false}
 use Rattle.base.proofs.Picks.{pick_yes, pick_no}
 use Rattle.settings.specs.Putting.{settings_test}
 use Rattle.settings.proofs.Bytes.{count_within}
-use borrow.Author.Rules.{rules}
 use Rattle.settings.proofs.puts.tested.Goals as goal
 
 pub returns-then-not-is_count : goal.returns-then-not-is_count

@@ -1,7 +1,6 @@
 -- `settings::puts::word_of` meets its contract: `encode` refuses no command that is in range.
 -- Assumes nothing.
 use Rattle.settings.proofs.Putting.{word_so}
-use borrow.Author.Rules.{rules}
 use Rattle.settings.proofs.puts.word_of.Goals as goal
 
 pub returns-in-Word : goal.returns-in-Word

@@ -4,7 +4,6 @@ use mathlib.Core.Path.{ap}
 use lib.ListN.{replicate}
 use Rattle.base.specs.Refusals.{hands_back, number_of, place_of}
 use Rattle.chain.specs.Chain.{most}
-use borrow.Author.Rules.{rules}
 use Rattle.settings.proofs.walk.refused.Goals as goal
 
 pub returns : goal.returns

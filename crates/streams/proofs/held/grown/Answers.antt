@@ -1,7 +1,6 @@
 -- `streams::held::grown` meets its contract. The invariant: what is held, grown by what is left, is what it is to become.
 -- Assumes nothing.
-use Rattle.std.proofs.Common.{◌≡◌, ◌-◌, length, drop, sym, refl, ◌∙◌, rules}
-use Rattle.streams.specs.Held.{grown_by}
+use Rattle.std.proofs.Common.{sym, refl, ◌∙◌, rules}
 use Rattle.streams.proofs.Helds.{grown_full, grown_more, grown_over}
 use Rattle.streams.proofs.held.grown.Goals as goal
 

@@ -1,8 +1,8 @@
 -- `streams::raw::fed` meets its contract. The invariant is `Walked`: what is left of the block steps to what the whole steps to.
 -- Assumes nothing.
-use Rattle.std.proofs.Common.{◌-◌, length, sym, ◌∙◌, arith, rules}
+use Rattle.std.proofs.Common.{sym, ◌∙◌, arith, rules}
 use Rattle.streams.proofs.Goes.{goes_over}
-use Rattle.streams.proofs.RawLoop.{Walked, walked_start, run_within, run_counted, run_some, run_room, byte_room, walked_run, walked_byte, walked_stop}
+use Rattle.streams.proofs.RawLoop.{walked_start, run_within, run_counted, run_some, run_room, byte_room, walked_run, walked_byte, walked_stop}
 use Rattle.streams.proofs.raw.fed.Goals as goal
 
 pub loop-i-init : goal.loop-i-init

@@ -1,8 +1,7 @@
 -- `streams::raw::fed` meets its contract. The invariant is `Walked`: what is left of the block steps to what the whole steps to.
 -- Assumes nothing.
-use Rattle.std.proofs.Common.{◌-◌, length, sym, ◌∙◌, arith, rules}
-use Rattle.streams.proofs.Goes.{goes_over}
-use Rattle.streams.proofs.RawLoop.{Walked, walked_start, run_within, run_counted, run_some, run_room, byte_room, walked_run, walked_byte, walked_stop}
+use Rattle.std.proofs.Common.{◌-◌, length}
+use Rattle.streams.proofs.RawLoop.{Walked}
 use Rattle.streams.proofs.raw.fed.Given as goal
 
 abbrev pub invariant-loop-i : goal.invariant-loop-i

@@ -1,6 +1,6 @@
 -- `streams::raw::head_byte` meets its contract: 00 and 01 are held, N starts a chain, and anything else is refused.
 -- Assumes nothing.
-use Rattle.std.proofs.Common.{T, sym, ap, ◌∙◌, subst, rules}
+use Rattle.std.proofs.Common.{T, sym, ap, ◌∙◌, subst}
 use borrow.Author.Tests.{not-true, not-false}
 use Rattle.chain.proofs.Passed.{start_done}
 use Rattle.streams.proofs.Stepping.{step_as, nothing_written, head_other, head_next, head_none, head_count}

@@ -1,6 +1,6 @@
 -- `streams::raw::is_scan` meets its contract.
 -- Assumes nothing.
-use Rattle.std.proofs.Common.{◌-◌, ◌&&◌, ltb, sym, ap, rules, le-leb}
+use Rattle.std.proofs.Common.{◌-◌, ◌&&◌, ltb, sym, ap, le-leb}
 use borrow.Author.Tests.{lt-leb}
 use Rattle.streams.proofs.raw.is_scan.Goals as goal
 

@@ -1,6 +1,6 @@
 -- `streams::raw::item_byte` meets its contract: by what is held, and what the byte is.
 -- Assumes nothing.
-use Rattle.std.proofs.Common.{sym, ◌∙◌, rules}
+use Rattle.std.proofs.Common.{sym, ◌∙◌}
 use borrow.Author.Tests.{not-true, not-false}
 use Rattle.streams.proofs.RawSteps.{starts_sample, item_scan, item_other, item_more, item_whole}
 use Rattle.streams.proofs.Stepping.{step_as, nothing_written}

@@ -1,6 +1,6 @@
 -- `streams::raw::kept` meets its contract.
 -- Assumes nothing.
-use Rattle.std.proofs.Common.{ap₂, rules}
+use Rattle.std.proofs.Common.{ap₂}
 use Rattle.streams.specs.Held.{grown_by}
 use Rattle.streams.proofs.raw.kept.Goals as goal
 

@@ -1,6 +1,6 @@
 -- `streams::raw::one_byte` meets its contract: one of the first three bytes, or one of an item.
 -- Assumes nothing.
-use Rattle.std.proofs.Common.{sym, ◌∙◌, rules}
+use Rattle.std.proofs.Common.{sym, ◌∙◌}
 use borrow.Author.Tests.{not-true, not-false}
 use Rattle.streams.proofs.RawSteps.{by_items, by_head}
 use Rattle.streams.proofs.Stepping.{step_as}

@@ -1,6 +1,6 @@
 -- `streams::raw::refusal` meets its contract.
 -- Assumes nothing.
-use Rattle.std.proofs.Common.{◌∷◌, sym, ap, rules}
+use Rattle.std.proofs.Common.{◌∷◌, sym, ap}
 use Rattle.lines.specs.Answers.{fitting}
 use Rattle.lines.specs.Lines.{line_for}
 use Rattle.lines.proofs.Puts.{eight_of}

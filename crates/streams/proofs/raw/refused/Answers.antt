@@ -1,6 +1,6 @@
 -- `streams::raw::refused` meets its contract: there is room for the whole refusal.
 -- Assumes nothing.
-use Rattle.std.proofs.Common.{refl, arith, rules}
+use Rattle.std.proofs.Common.{refl, arith}
 use Rattle.lines.proofs.Puts.{put_whole}
 use Rattle.streams.proofs.Refusals.{raw_refusal_length}
 use Rattle.streams.proofs.raw.refused.Goals as goal

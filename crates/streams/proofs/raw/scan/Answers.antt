@@ -1,7 +1,6 @@
 -- `streams::raw::scan` meets its contract.
 -- Assumes nothing.
 use Rattle.streams.proofs.Stepping.{scan_made}
-use Rattle.std.proofs.Common.{rules}
 use Rattle.streams.proofs.raw.scan.Goals as goal
 
 pub returns : goal.returns

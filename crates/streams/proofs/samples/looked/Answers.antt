@@ -1,7 +1,6 @@
 -- `streams::samples::looked` meets its contract.
 -- Assumes nothing.
 use Rattle.streams.proofs.Runs.{looked_run}
-use Rattle.std.proofs.Common.{rules}
 use Rattle.streams.proofs.samples.looked.Goals as goal
 
 pub returns : goal.returns

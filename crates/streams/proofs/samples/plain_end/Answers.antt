@@ -1,7 +1,6 @@
 -- `streams::samples::plain_end` meets its contract. The invariant: the place, and what is left from it on, come to the same.
 -- Assumes nothing.
-use Rattle.std.proofs.Common.{◌≡◌, ◌+◌, ◌-◌, length, drop, refl, arith, rules}
-use Rattle.streams.specs.Parts.{plain_length}
+use Rattle.std.proofs.Common.{refl, arith}
 use Rattle.streams.proofs.Runs.{plain_more, plain_here, plain_over}
 use Rattle.streams.proofs.samples.plain_end.Goals as goal
 

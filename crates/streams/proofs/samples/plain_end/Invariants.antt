@@ -1,8 +1,7 @@
 -- `streams::samples::plain_end` meets its contract. The invariant: the place, and what is left from it on, come to the same.
 -- Assumes nothing.
-use Rattle.std.proofs.Common.{◌≡◌, ◌+◌, ◌-◌, length, drop, refl, arith, rules}
+use Rattle.std.proofs.Common.{◌≡◌, ◌+◌, ◌-◌, length, drop}
 use Rattle.streams.specs.Parts.{plain_length}
-use Rattle.streams.proofs.Runs.{plain_more, plain_here, plain_over}
 use Rattle.streams.proofs.samples.plain_end.Given as goal
 
 abbrev pub invariant-loop-i : goal.invariant-loop-i

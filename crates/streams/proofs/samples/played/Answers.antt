@@ -1,7 +1,6 @@
 -- `streams::samples::played` meets its contract.
 -- Assumes nothing.
 use Rattle.streams.proofs.Stepping.{samples_made}
-use Rattle.std.proofs.Common.{rules}
 use Rattle.streams.proofs.samples.played.Goals as goal
 
 pub returns : goal.returns

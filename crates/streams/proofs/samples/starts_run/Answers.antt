@@ -1,6 +1,6 @@
 -- `streams::samples::starts_run` meets its contract.
 -- Assumes nothing.
-use Rattle.std.proofs.Common.{sym, ◌∙◌, rules}
+use Rattle.std.proofs.Common.{sym, ◌∙◌}
 use borrow.Author.Tests.{not-true, not-false}
 use Rattle.streams.proofs.RawSteps.{starts_uncounted, starts_held, starts_sample}
 use Rattle.streams.proofs.samples.starts_run.Goals as goal

@@ -1,6 +1,6 @@
 -- `streams::text::ended` meets its contract: the first line, or a later one that is refused or taken.
 -- Assumes nothing.
-use Rattle.std.proofs.Common.{length, sym, ap, ◌∙◌, arith, rules}
+use Rattle.std.proofs.Common.{length, sym, ap, ◌∙◌, arith}
 use borrow.Author.Tests.{not-true, not-false}
 use Rattle.streams.proofs.TextLines.{line_few, line_first, line_refused_out, line_refused, line_taken}
 use Rattle.streams.proofs.text.ended.Goals as goal

@@ -1,6 +1,6 @@
 -- `streams::text::refused` meets its contract: there is room for the whole refusal.
 -- Assumes nothing.
-use Rattle.std.proofs.Common.{refl, arith, rules}
+use Rattle.std.proofs.Common.{refl, arith}
 use Rattle.base.specs.Refusals.{number_of, place_of}
 use Rattle.lines.proofs.Puts.{put_whole}
 use Rattle.capture.proofs.Reported.{refusal_length}

@@ -4,7 +4,6 @@ use mathlib.Core.Path.{ap, sym, ◌∙◌}
 use Rattle.chip.specs.Scans.{recording_of}
 use Rattle.tallies.specs.Parts.{codes_after}
 use Rattle.tallies.proofs.Rises.{codes_none, codes_one, codes_over, codes_released}
-use borrow.Author.Rules.{rules}
 use Rattle.tallies.proofs.adds.codes_after.Goals as goal
 
 pub returns-in-Nothing : goal.returns-in-Nothing

@@ -7,7 +7,6 @@ use Rattle.chain.specs.Events.{obeyed}
 use Rattle.tallies.specs.Counts.{plus, step_counts}
 use Rattle.tallies.specs.Parts.{AtMostOne}
 use Rattle.tallies.proofs.Steps.{plus_none, command_few}
-use borrow.Author.Rules.{rules}
 use Rattle.tallies.proofs.adds.obeys.Goals as goal
 
 pub plus-requires : goal.plus-requires

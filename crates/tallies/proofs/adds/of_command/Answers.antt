@@ -5,7 +5,6 @@ use mathlib.Core.Bool.{not, ◌&&◌}
 use borrow.Author.Tests.{not-true, not-false}
 use Rattle.base.specs.Bits.{bit_value}
 use Rattle.tallies.specs.Counts.{counts, command_counts}
-use borrow.Author.Rules.{rules}
 use Rattle.tallies.proofs.adds.of_command.Goals as goal
 
 pub returns-then-s : goal.returns-then-s

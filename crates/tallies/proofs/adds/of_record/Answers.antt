@@ -3,7 +3,6 @@
 use mathlib.Core.Path.{ap, sym, ◌∙◌}
 use Rattle.chip.specs.Scans.{recording_of}
 use Rattle.tallies.specs.Counts.{record_counts}
-use borrow.Author.Rules.{rules}
 use Rattle.tallies.proofs.adds.of_record.Goals as goal
 
 pub returns-in-Key : goal.returns-in-Key

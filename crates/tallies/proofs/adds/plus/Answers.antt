@@ -2,7 +2,6 @@
 -- Assumes nothing.
 use native.Mathlib.Omega.{arith}
 use Rattle.tallies.proofs.Rooms.{rooms}
-use borrow.Author.Rules.{rules}
 use Rattle.tallies.proofs.adds.plus.Goals as goal
 
 pub overflow_add-recorded : goal.overflow_add-recorded

@@ -1,12 +1,11 @@
 -- `tallies::adds::rise` meets its contract. The invariant is `Rising`: the chips done so far, and the rest counted, are the whole counted.
 -- Assumes nothing.
 use mathlib.Core.Path.{◌≡◌}
-use Prim.Native.Nat.{◌-◌}
 use lib.ListN.{length}
 use Rattle.base.proofs.Lists.{length_mapped}
 use Rattle.chain.specs.Chain.{most}
 use Rattle.tallies.specs.Parts.{risen}
-use Rattle.tallies.proofs.Rises.{Rising, rising_start, rising_room, rising_more, rising_over}
+use Rattle.tallies.proofs.Rises.{rising_start, rising_room, rising_more, rising_over}
 use Rattle.tallies.proofs.Rooms.{fits_parts}
 use borrow.Author.Rules.{rules}
 use Rattle.tallies.proofs.adds.rise.Goals as goal

@@ -1,7 +1,6 @@
 -- `tallies::printed::all` meets its contract.
 -- Assumes nothing.
 use Rattle.tallies.proofs.PrintedLines.{chips_fit, codes_fit, end_fits, prints_so}
-use borrow.Author.Rules.{rules}
 use Rattle.tallies.proofs.printed.all.Goals as goal
 
 pub chip_lines-first-requires : goal.chip_lines-first-requires

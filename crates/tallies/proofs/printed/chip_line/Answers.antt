@@ -6,7 +6,6 @@ use lib.ListN.{length}
 use Rattle.capture.proofs.Reported.{line_put}
 use Rattle.tallies.specs.Printed.{chip_line}
 use Rattle.tallies.proofs.PrintedLines.{chip_bytes, chip_line_is, chip_length}
-use borrow.Author.Rules.{rules}
 use Rattle.tallies.proofs.printed.chip_line.Goals as goal
 
 pub returns : goal.returns

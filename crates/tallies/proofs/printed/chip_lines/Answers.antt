@@ -1,13 +1,10 @@
 -- `tallies::printed::chip_lines` meets its contract. The invariant: the lines of the chips left, put where the loop stands, make the
 -- whole.
 -- Assumes nothing.
-use mathlib.Core.Path.{◌≡◌}
-use Prim.Native.Nat.{◌-◌}
 use native.Mathlib.Omega.{arith}
-use lib.ListN.{length, get_or, take}
-use Rattle.base.proofs.Lent.{Fills, fills_start}
+use lib.ListN.{get_or, take}
+use Rattle.base.proofs.Lent.{fills_start}
 use Rattle.base.proofs.Lists.{length_mapped}
-use Rattle.chain.specs.Chain.{most}
 use Rattle.tallies.specs.Counts.{no_counts}
 use Rattle.tallies.specs.Printed.{chip_line}
 use Rattle.lines.proofs.Each.{lines_left, left_room, left_more, left_over, front_at, front_few, front_many}

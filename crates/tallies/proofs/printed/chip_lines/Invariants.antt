@@ -3,16 +3,11 @@
 -- Assumes nothing.
 use mathlib.Core.Path.{◌≡◌}
 use Prim.Native.Nat.{◌-◌}
-use native.Mathlib.Omega.{arith}
-use lib.ListN.{length, get_or, take}
-use Rattle.base.proofs.Lent.{Fills, fills_start}
-use Rattle.base.proofs.Lists.{length_mapped}
+use lib.ListN.{length, take}
+use Rattle.base.proofs.Lent.{Fills}
 use Rattle.chain.specs.Chain.{most}
-use Rattle.tallies.specs.Counts.{no_counts}
 use Rattle.tallies.specs.Printed.{chip_line}
-use Rattle.lines.proofs.Each.{lines_left, left_room, left_more, left_over, front_at, front_few, front_many}
-use Rattle.tallies.proofs.PrintedLines.{chip_length}
-use borrow.Author.Rules.{rules}
+use Rattle.lines.proofs.Each.{lines_left}
 use Rattle.tallies.proofs.printed.chip_lines.Given as goal
 
 abbrev pub invariant-loop-k : goal.invariant-loop-k

@@ -2,7 +2,6 @@
 -- Assumes nothing.
 use Rattle.capture.proofs.Reported.{none_put, puts_as, line_put}
 use Rattle.tallies.proofs.PrintedLines.{code_bytes, code_none, code_line_is}
-use borrow.Author.Rules.{rules}
 use Rattle.tallies.proofs.printed.code_line.Goals as goal
 
 pub returns-then-count-eq0 : goal.returns-then-count-eq0

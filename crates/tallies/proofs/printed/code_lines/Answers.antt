@@ -1,11 +1,9 @@
 -- `tallies::printed::code_lines` meets its contract. The invariant: the lines of the codes left, put where the loop stands, make the
 -- whole.
 -- Assumes nothing.
-use mathlib.Core.Path.{◌≡◌, refl}
-use Prim.Native.Nat.{◌-◌}
+use mathlib.Core.Path.{refl}
 use native.Mathlib.Omega.{arith}
-use lib.ListN.{length}
-use Rattle.base.proofs.Lent.{Fills, fills_start}
+use Rattle.base.proofs.Lent.{fills_start}
 use Rattle.tallies.specs.Printed.{code_line}
 use Rattle.lines.proofs.Each.{lines_left, left_room, left_more, left_over}
 use borrow.Author.Rules.{rules}

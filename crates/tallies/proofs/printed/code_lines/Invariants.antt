@@ -1,14 +1,12 @@
 -- `tallies::printed::code_lines` meets its contract. The invariant: the lines of the codes left, put where the loop stands, make the
 -- whole.
 -- Assumes nothing.
-use mathlib.Core.Path.{◌≡◌, refl}
+use mathlib.Core.Path.{◌≡◌}
 use Prim.Native.Nat.{◌-◌}
-use native.Mathlib.Omega.{arith}
 use lib.ListN.{length}
-use Rattle.base.proofs.Lent.{Fills, fills_start}
+use Rattle.base.proofs.Lent.{Fills}
 use Rattle.tallies.specs.Printed.{code_line}
-use Rattle.lines.proofs.Each.{lines_left, left_room, left_more, left_over}
-use borrow.Author.Rules.{rules}
+use Rattle.lines.proofs.Each.{lines_left}
 use Rattle.tallies.proofs.printed.code_lines.Given as goal
 
 abbrev pub invariant-loop-i : goal.invariant-loop-i

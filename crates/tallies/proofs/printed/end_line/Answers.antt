@@ -9,7 +9,6 @@ use Rattle.base.specs.declared.Verdict.{Verdict}
 use Rattle.lines.proofs.Puts.{put_whole}
 use Rattle.capture.specs.Law.{end_line}
 use Rattle.capture.proofs.Reported.{none_put, puts_as}
-use borrow.Author.Rules.{rules}
 use Rattle.tallies.proofs.printed.end_line.Goals as goal
 
 -- the line of a case

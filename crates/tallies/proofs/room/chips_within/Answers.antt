@@ -1,14 +1,10 @@
 -- `tallies::room::chips_within` meets its contract. The invariant: what is left is all that the answer hangs on.
 -- Assumes nothing.
-use mathlib.Core.Path.{◌≡◌, refl, sym, ◌∙◌}
-use Prim.Native.Nat.{◌-◌}
+use mathlib.Core.Path.{refl, sym, ◌∙◌}
 use native.Mathlib.Omega.{arith}
-use lib.ListN.{length, drop}
 use borrow.Author.Tests.{not-true, not-false}
 use Rattle.base.proofs.Lists.{length_mapped}
-use Rattle.chain.specs.Chain.{most}
 use Rattle.tallies.specs.Parts.{within}
-use Rattle.base.specs.Below.{every}
 use Rattle.base.proofs.Every.{every_step, every_stop, every_over}
 use borrow.Author.Rules.{rules}
 use Rattle.tallies.proofs.room.chips_within.Goals as goal

@@ -1,12 +1,9 @@
 -- `tallies::room::codes_within` meets its contract. The invariant: what is left is all that the answer hangs on.
 -- Assumes nothing.
-use mathlib.Core.Path.{◌≡◌, refl, sym, ◌∙◌}
-use Prim.Native.Nat.{◌-◌}
+use mathlib.Core.Path.{refl, sym, ◌∙◌}
 use native.Mathlib.Omega.{arith}
-use lib.ListN.{length, drop}
 use borrow.Author.Tests.{le-leb, lt-leb}
 use Rattle.tallies.specs.Parts.{at_most}
-use Rattle.base.specs.Below.{every}
 use Rattle.base.proofs.Every.{every_step, every_stop, every_over}
 use borrow.Author.Rules.{rules}
 use Rattle.tallies.proofs.room.codes_within.Goals as goal

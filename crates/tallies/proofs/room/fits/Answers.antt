@@ -9,7 +9,6 @@ use Rattle.tallies.specs.Parts.{at_most}
 use Rattle.base.specs.Below.{every}
 use Rattle.tallies.specs.Tallies.{largest_count}
 use Rattle.tallies.proofs.Rooms.{within_room}
-use borrow.Author.Rules.{rules}
 use Rattle.tallies.proofs.room.fits.Goals as goal
 
 pub returns-then-not-chips_within : goal.returns-then-not-chips_within

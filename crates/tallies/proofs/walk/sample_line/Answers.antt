@@ -7,7 +7,6 @@ use borrow.Author.Tests.{not-true, not-false}
 use Rattle.chain.specs.Events.{sample}
 use Rattle.tallies.specs.Tallies.{fits}
 use Rattle.tallies.proofs.Taken.{full_line, counted_line_lem}
-use borrow.Author.Rules.{rules}
 use Rattle.tallies.proofs.walk.sample_line.Goals as goal
 
 pub returns-then-not-fits : goal.returns-then-not-fits

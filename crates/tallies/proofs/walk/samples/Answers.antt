@@ -1,10 +1,8 @@
 -- `tallies::walk::samples` meets its contract. The invariant is `Sampling`: what is left makes the whole.
 -- Assumes nothing.
-use Prim.Native.Nat.{◌-◌}
-use lib.ListN.{length}
 use Rattle.base.proofs.Lists.{length_mapped}
 use Rattle.chain.proofs.Stretch.{stretch_fewer}
-use Rattle.tallies.proofs.Stretches.{Sampling, sampling_start, turn_room, turn_rose, turn_still, sampling_over}
+use Rattle.tallies.proofs.Stretches.{sampling_start, turn_room, turn_rose, turn_still, sampling_over}
 use borrow.Author.Rules.{rules}
 use Rattle.tallies.proofs.walk.samples.Goals as goal
 

@@ -2,10 +2,7 @@
 -- Assumes nothing.
 use Prim.Native.Nat.{◌-◌}
 use lib.ListN.{length}
-use Rattle.base.proofs.Lists.{length_mapped}
-use Rattle.chain.proofs.Stretch.{stretch_fewer}
-use Rattle.tallies.proofs.Stretches.{Sampling, sampling_start, turn_room, turn_rose, turn_still, sampling_over}
-use borrow.Author.Rules.{rules}
+use Rattle.tallies.proofs.Stretches.{Sampling}
 use Rattle.tallies.proofs.walk.samples.Given as goal
 
 abbrev pub invariant-loop-i : goal.invariant-loop-i

@@ -9,7 +9,6 @@ use Rattle.chain.specs.Events.{scan}
 use Rattle.tallies.specs.Parts.{scanned_tally}
 use Rattle.tallies.proofs.Scanning.{one_scan}
 use Rattle.tallies.proofs.Taken.{full_line, counted_line_lem}
-use borrow.Author.Rules.{rules}
 use Rattle.tallies.proofs.walk.scan_line.Goals as goal
 
 pub returns-then-not-fits : goal.returns-then-not-fits

@@ -10,7 +10,6 @@ use Rattle.tallies.specs.declared.Tally.{Tally}
 use Rattle.tallies.specs.Counted.{counted_lines}
 use Rattle.tallies.specs.Parts.{tally_of}
 use Rattle.tallies.proofs.Walking.{none_counted, begun_counted}
-use borrow.Author.Rules.{rules}
 use Rattle.tallies.proofs.walk.whole.Goals as goal
 
 pub returns-then-n-eq0 : goal.returns-then-n-eq0
