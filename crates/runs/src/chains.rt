@@ -1,86 +1,74 @@
 // Document 01's cases of a chain: 8 and 9 chips, samples 7 and 8, empty blocks, and the readout of P12 at the host's DOUT.
-use crate::text::{line_end, put, put_byte};
 use base::{Refusal, Verdict};
 use chain::Chain;
 use chip::ScanAnswer;
+use std::io;
 use word::{Command, System};
 
-pub fn run() {
-    put(b"start 8 chips: ");
-    answered(chain::start(8));
-    put(b"start 9 chips: ");
-    answered(chain::start(9));
-    put(b"start 0 chips: ");
-    answered(chain::start(0));
-    blocks();
-    records();
-    readout();
-    finder();
+pub fn run(rt: &impl Print) -> io::Result<()> {
+    rt.print("start 8 chips: ")?;
+    answered(rt, chain::start(8))?;
+    rt.print("start 9 chips: ")?;
+    answered(rt, chain::start(9))?;
+    rt.print("start 0 chips: ")?;
+    answered(rt, chain::start(0))?;
+    blocks(rt)?;
+    records(rt)?;
+    readout(rt)?;
+    finder(rt)
 }
 
-pub fn verdict(v: Verdict) {
+pub fn verdict(rt: &impl Print, v: Verdict) -> io::Result<()> {
     match v {
-        Verdict::Done => put(b"done"),
-        Verdict::Refused(e) => {
-            put(b"refused ");
-            refusal(e);
-        }
+        Verdict::Done => rt.print("done"),
+        Verdict::Refused(e) => refused(rt, e),
     }
 }
 
 // A refusal's number and place.
-pub fn refusal(e: Refusal) {
-    match e {
-        Refusal::Sample(place) => numbered(1, place),
-        Refusal::ScanChip => numbered(2, 0),
-        Refusal::ChipCount => numbered(3, 0),
-        Refusal::PartRow => numbered(4, 0),
-        Refusal::Rows => numbered(5, 0),
-        Refusal::Unlisted(place) => numbered(6, place),
-        Refusal::Keypad(place) => numbered(7, place),
-        Refusal::Room => numbered(8, 0),
-        Refusal::Field(place) => numbered(9, place),
-        Refusal::Line(place) => numbered(10, place),
-        Refusal::Text => numbered(11, 0),
-        Refusal::Record => numbered(12, 0),
-        Refusal::LitSleep(place) => numbered(13, place),
-        Refusal::Version(version) => numbered(14, version),
-        Refusal::Setting(line) => numbered(15, line),
-        Refusal::Count(place) => numbered(16, place),
-    }
-}
-
-fn numbered(number: u64, place: u64) {
-    io::print_decimal(1, number);
-    put(b" at ");
-    io::print_decimal(1, place);
+pub fn refused(rt: &impl Print, e: Refusal) -> io::Result<()> {
+    let (number, place) = match e {
+        Refusal::Sample(place) => (1, place),
+        Refusal::ScanChip => (2, 0),
+        Refusal::ChipCount => (3, 0),
+        Refusal::PartRow => (4, 0),
+        Refusal::Rows => (5, 0),
+        Refusal::Unlisted(place) => (6, place),
+        Refusal::Keypad(place) => (7, place),
+        Refusal::Room => (8, 0),
+        Refusal::Field(place) => (9, place),
+        Refusal::Line(place) => (10, place),
+        Refusal::Text => (11, 0),
+        Refusal::Record => (12, 0),
+        Refusal::LitSleep(place) => (13, place),
+        Refusal::Version(version) => (14, version),
+        Refusal::Setting(line) => (15, line),
+        Refusal::Count(place) => (16, place),
+    };
+    print!(rt; "refused {number} at {place}")
 }
 
 // Whether a chain was refused, and the levels that it keeps.
-fn answered(h: chain::HandedChain) {
-    let v = h.answer;
-    verdict(v);
-    let ch = h.chain;
-    put(b", levels ");
-    put_byte(ch.levels);
-    line_end();
+fn answered(rt: &impl Print, h: chain::HandedChain) -> io::Result<()> {
+    verdict(rt, h.answer)?;
+    println!(rt; ", levels {:02x}", h.chain.levels)
 }
 
-fn blocks() {
+fn blocks(rt: &impl Print) -> io::Result<()> {
     let eight = chain::start(8);
     let ch = eight.chain;
-    put(b"an empty block: ");
-    answered(chain::play::play(8, ch, b""));
-    put(b"samples 3, 7: ");
-    answered(chain::play::play(8, ch, b"\x03\x07"));
-    put(b"samples 3, 8: ");
-    answered(chain::play::play(8, ch, b"\x03\x08"));
-    put(b"samples 3 for 9 chips: ");
-    answered(chain::play::play(9, ch, b"\x03"));
-    put(b"a command to chip 8 of 8: ");
-    answered(chain::one::apply(8, ch, 8, Command::NoOperation));
-    put(b"a command out of range: ");
-    answered(chain::one::apply(8, ch, 8, Command::BarLevel(128)));
+    rt.print("an empty block: ")?;
+    answered(rt, chain::play::play(8, ch, b""))?;
+    rt.print("samples 3, 7: ")?;
+    answered(rt, chain::play::play(8, ch, b"\x03\x07"))?;
+    rt.print("samples 3, 8: ")?;
+    answered(rt, chain::play::play(8, ch, b"\x03\x08"))?;
+    rt.print("samples 3 for 9 chips: ")?;
+    answered(rt, chain::play::play(9, ch, b"\x03"))?;
+    rt.print("a command to chip 8 of 8: ")?;
+    answered(rt, chain::one::apply(8, ch, 8, Command::NoOperation))?;
+    rt.print("a command out of range: ")?;
+    answered(rt, chain::one::apply(8, ch, 8, Command::BarLevel(128)))
 }
 
 // What a scan answers, as a verdict.
@@ -93,17 +81,17 @@ fn scan_verdict(s: chain::one::Scanned) -> Verdict {
 }
 
 // A scan of a chip that isn't there, and a record that no chip can hold, below N and from N on.
-fn records() {
+fn records(rt: &impl Print) -> io::Result<()> {
     let eight = chain::start(8);
     let mut ch = eight.chain;
-    put(b"a scan of chip 8 of 8: ");
-    verdict(scan_verdict(chain::one::scan(8, ch, 8, [0; 8])));
-    line_end();
+    rt.print("a scan of chip 8 of 8: ")?;
+    verdict(rt, scan_verdict(chain::one::scan(8, ch, 8, [0; 8])))?;
+    rt.println("")?;
     ch.chips[7].settings.custom = 128;
-    put(b"custom 128 in chip 7 of 8: ");
-    answered(chain::play::play(8, ch, b"\x07"));
-    put(b"custom 128 in chip 7, 7 chips used: ");
-    answered(chain::play::play(7, ch, b"\x07"));
+    rt.print("custom 128 in chip 7 of 8: ")?;
+    answered(rt, chain::play::play(8, ch, b"\x07"))?;
+    rt.print("custom 128 in chip 7, 7 chips used: ")?;
+    answered(rt, chain::play::play(7, ch, b"\x07"))
 }
 
 // A chain of one chip with the keypad on and 63H held.
@@ -123,63 +111,55 @@ fn holding() -> Chain {
 }
 
 // What the host sees: H or L.
-fn see(ch: Chain) {
+fn see(rt: &impl Print, ch: Chain) -> io::Result<()> {
     let seen = chain::host_sees(1, ch);
-    if seen.level {
-        put(b"H");
-    } else {
-        put(b"L");
-    }
+    rt.print(if seen.level { "H" } else { "L" })
 }
 
 // One clock, after which the host looks.
-fn clock(ch: Chain) -> Chain {
+fn clock(rt: &impl Print, ch: Chain) -> io::Result<Chain> {
     let fall = chain::play::play(1, ch, b"\x05");
     let mid = fall.chain;
-    see(mid);
+    see(rt, mid)?;
     let rise = chain::play::play(1, mid, b"\x07");
-    rise.chain
+    Ok(rise.chain)
 }
 
 // 1^1^1^0^ and LOAD, then clocks: the sheet's 5.5 and P12.
-fn readout() {
+fn readout(rt: &impl Print) -> io::Result<()> {
     let ch = holding();
-    put(b"5.5 code 63: interrupt ");
-    see(ch);
+    rt.print("5.5 code 63: interrupt ")?;
+    see(rt, ch)?;
     let sent = chain::play::play(1, ch, b"\x05\x07\x05\x07\x05\x07\x04\x06\x03\x07");
     let start = sent.chain;
-    put(b", readout ");
-    see(start);
-    let six = clock(clock(clock(clock(clock(clock(start))))));
-    put(b", then ");
-    clock(clock(six));
-    line_end();
+    rt.print(", readout ")?;
+    see(rt, start)?;
+    let six = clock(
+        rt,
+        clock(rt, clock(rt, clock(rt, clock(rt, clock(rt, start)?)?)?)?)?,
+    )?;
+    rt.print(", then ")?;
+    clock(rt, clock(rt, six)?)?;
+    rt.println("")
 }
 
-fn finder() {
-    put(b"next LOAD rise in 3, 3, 7, 3, 7: ");
-    found(chain::finder::next_rise(7, b"\x03\x03\x07\x03\x07"));
-    put(b"next LOAD rise in 6, 7: ");
-    found(chain::finder::next_rise(7, b"\x06\x07"));
-    put(b"next LOAD rise in 3, 7, 8: ");
-    found(chain::finder::next_rise(7, b"\x03\x07\x08"));
-    put(b"next LOAD rise after levels 8: ");
-    found(chain::finder::next_rise(8, b"\x03\x07\x08"));
+fn finder(rt: &impl Print) -> io::Result<()> {
+    rt.print("next LOAD rise in 3, 3, 7, 3, 7: ")?;
+    found(rt, chain::finder::next_rise(7, b"\x03\x03\x07\x03\x07"))?;
+    rt.print("next LOAD rise in 6, 7: ")?;
+    found(rt, chain::finder::next_rise(7, b"\x06\x07"))?;
+    rt.print("next LOAD rise in 3, 7, 8: ")?;
+    found(rt, chain::finder::next_rise(7, b"\x03\x07\x08"))?;
+    rt.print("next LOAD rise after levels 8: ")?;
+    found(rt, chain::finder::next_rise(8, b"\x03\x07\x08"))
 }
 
-fn found(f: chain::finder::Found) {
-    let rise = f.rise;
-    match rise {
-        chain::finder::Rise::At(place) => {
-            put(b"at ");
-            io::print_decimal(1, place as u64);
-        }
-        chain::finder::Rise::Nothing => put(b"none"),
+fn found(rt: &impl Print, f: chain::finder::Found) -> io::Result<()> {
+    match f.rise {
+        chain::finder::Rise::At(place) => print!(rt; "at {place}")?,
+        chain::finder::Rise::Nothing => rt.print("none")?,
     }
-    put(b", passed ");
-    io::print_decimal(1, f.passed as u64);
-    put(b", ");
-    let v = f.answer;
-    verdict(v);
-    line_end();
+    print!(rt; ", passed {}, ", f.passed)?;
+    verdict(rt, f.answer)?;
+    rt.println("")
 }

@@ -1,34 +1,34 @@
 // C-21's cases of refusal 16: counts near 2^64 - 1, of a chip, of a code and of a chip that the capture hasn't: one below the limit, at
 // it and above it. A line of samples wants room for as many as it has, a scan for one.
 use crate::chains::verdict;
-use crate::text::{line_end, put};
+use std::io;
 use tallies::Tally;
 
-pub fn run() {
-    put(b"chip 0 at 2^64 - 5, 3 samples: ");
-    three_samples(with_chip(u64::MAX - 4));
-    put(b"chip 0 at 2^64 - 4, 3 samples: ");
-    three_samples(with_chip(u64::MAX - 3));
-    put(b"chip 0 at 2^64 - 3, 3 samples: ");
-    three_samples(with_chip(u64::MAX - 2));
-    put(b"code 63 at 2^64 - 5, 3 samples: ");
-    three_samples(with_code(u64::MAX - 4));
-    put(b"code 63 at 2^64 - 4, 3 samples: ");
-    three_samples(with_code(u64::MAX - 3));
-    put(b"code 63 at 2^64 - 3, 3 samples: ");
-    three_samples(with_code(u64::MAX - 2));
-    put(b"chip 7 of 1 at 2^64 - 3, a scan: ");
-    one_scan(with_other_chip(u64::MAX - 2));
-    put(b"chip 7 of 1 at 2^64 - 2, a scan: ");
-    one_scan(with_other_chip(u64::MAX - 1));
-    put(b"chip 7 of 1 at 2^64 - 1, a scan: ");
-    one_scan(with_other_chip(u64::MAX));
-    put(b"chip 0 at 2^64 - 1, a line of no form: ");
-    counted(with_chip(u64::MAX), b"000101\n03\n");
-    put(b"chip 0 at 2^64 - 1, the first line alone: ");
-    counted(with_chip(u64::MAX), b"000101\n");
-    put(b"a tally of 9 chips: ");
-    counted(with_largest(9), b"000101\n");
+pub fn run(rt: &impl Print) -> io::Result<()> {
+    rt.print("chip 0 at 2^64 - 5, 3 samples: ")?;
+    three_samples(rt, with_chip(u64::MAX - 4))?;
+    rt.print("chip 0 at 2^64 - 4, 3 samples: ")?;
+    three_samples(rt, with_chip(u64::MAX - 3))?;
+    rt.print("chip 0 at 2^64 - 3, 3 samples: ")?;
+    three_samples(rt, with_chip(u64::MAX - 2))?;
+    rt.print("code 63 at 2^64 - 5, 3 samples: ")?;
+    three_samples(rt, with_code(u64::MAX - 4))?;
+    rt.print("code 63 at 2^64 - 4, 3 samples: ")?;
+    three_samples(rt, with_code(u64::MAX - 3))?;
+    rt.print("code 63 at 2^64 - 3, 3 samples: ")?;
+    three_samples(rt, with_code(u64::MAX - 2))?;
+    rt.print("chip 7 of 1 at 2^64 - 3, a scan: ")?;
+    one_scan(rt, with_other_chip(u64::MAX - 2))?;
+    rt.print("chip 7 of 1 at 2^64 - 2, a scan: ")?;
+    one_scan(rt, with_other_chip(u64::MAX - 1))?;
+    rt.print("chip 7 of 1 at 2^64 - 1, a scan: ")?;
+    one_scan(rt, with_other_chip(u64::MAX))?;
+    rt.print("chip 0 at 2^64 - 1, a line of no form: ")?;
+    counted(rt, with_chip(u64::MAX), b"000101\n03\n")?;
+    rt.print("chip 0 at 2^64 - 1, the first line alone: ")?;
+    counted(rt, with_chip(u64::MAX), b"000101\n")?;
+    rt.print("a tally of 9 chips: ")?;
+    counted(rt, with_largest(9), b"000101\n")
 }
 
 // A tally with one count of chip 0.
@@ -59,18 +59,17 @@ fn with_largest(n: usize) -> Tally {
     tally
 }
 
-fn three_samples(tally: Tally) {
-    counted(tally, b"000101\n01070707\n");
+fn three_samples(rt: &impl Print, tally: Tally) -> io::Result<()> {
+    counted(rt, tally, b"000101\n01070707\n")
 }
 
-fn one_scan(tally: Tally) {
-    counted(tally, b"000101\n02000000000000000000\n");
+fn one_scan(rt: &impl Print, tally: Tally) -> io::Result<()> {
+    counted(rt, tally, b"000101\n02000000000000000000\n")
 }
 
 // Whether the text was taken, or what refused it.
-fn counted(tally: Tally, text: &[u8]) {
+fn counted(rt: &impl Print, tally: Tally, text: &[u8]) -> io::Result<()> {
     let r = tallies::count(tally, text);
-    let answer = r.answer;
-    verdict(answer);
-    line_end();
+    verdict(rt, r.answer)?;
+    rt.println("")
 }

@@ -1,84 +1,83 @@
 // C-17's cases: lists with sleep words, accepted and refused, and one that is played.
-use crate::text::{line_end, put, put_byte};
 use crate::writes::{answered, with_room};
 use chain::Chain;
+use std::io;
 
-pub fn run() {
-    one_chip();
-    two_chips();
-    other_refusals();
-    played();
+pub fn run(rt: &impl Print) -> io::Result<()> {
+    one_chip(rt)?;
+    two_chips(rt)?;
+    other_refusals(rt)?;
+    played(rt)
 }
 
-fn one_chip() {
+fn one_chip(rt: &impl Print) -> io::Result<()> {
     let alone = [0x202u16];
-    put(b"sleep alone: ");
-    with_room(1, &alone);
+    rt.print("sleep alone: ")?;
+    with_room(rt, 1, &alone)?;
     let twice = [0x400u16, 0x202, 0x202];
-    put(b"KEYB 0 and DISP 0, sleep, sleep: ");
-    with_room(1, &twice);
+    rt.print("KEYB 0 and DISP 0, sleep, sleep: ")?;
+    with_room(rt, 1, &twice)?;
     let display = [0x401u16, 0x202];
-    put(b"DISP 1, sleep: ");
-    with_room(1, &display);
+    rt.print("DISP 1, sleep: ")?;
+    with_room(rt, 1, &display)?;
     let keypad = [0x402u16, 0x202];
-    put(b"KEYB 1, sleep: ");
-    with_room(1, &keypad);
+    rt.print("KEYB 1, sleep: ")?;
+    with_room(rt, 1, &keypad)?;
     let nearest = [0x201u16, 0x403, 0x202];
-    put(b"a reset, KEYB 1 and DISP 1, sleep: ");
-    with_room(1, &nearest);
+    rt.print("a reset, KEYB 1 and DISP 1, sleep: ")?;
+    with_room(rt, 1, &nearest)?;
     let reset = [0x403u16, 0x201, 0x202];
-    put(b"KEYB 1 and DISP 1, a reset, sleep: ");
-    with_room(1, &reset);
+    rt.print("KEYB 1 and DISP 1, a reset, sleep: ")?;
+    with_room(rt, 1, &reset)?;
     let others = [0x438u16, 0x202];
-    put(b"INTM, SSPD and DPLR 1, sleep: ");
-    with_room(1, &others);
+    rt.print("INTM, SSPD and DPLR 1, sleep: ")?;
+    with_room(rt, 1, &others)?;
     let off = [0x400u16];
-    put(b"KEYB 0 and DISP 0 in one list: ");
-    with_room(1, &off);
-    put(b"sleep in the next list: ");
-    with_room(1, &alone);
+    rt.print("KEYB 0 and DISP 0 in one list: ")?;
+    with_room(rt, 1, &off)?;
+    rt.print("sleep in the next list: ")?;
+    with_room(rt, 1, &alone)
 }
 
-fn two_chips() {
+fn two_chips(rt: &impl Print) -> io::Result<()> {
     let neighbour = [0x000u16, 0x201, 0x202, 0x000];
-    put(b"a reset for chip 1, sleep for chip 0: ");
-    with_room(2, &neighbour);
+    rt.print("a reset for chip 1, sleep for chip 0: ")?;
+    with_room(rt, 2, &neighbour)?;
     let own = [0x201u16, 0x403, 0x202, 0x000];
-    put(b"a reset for chip 0, KEYB 1 and DISP 1 for chip 1, sleep for chip 0: ");
-    with_room(2, &own);
+    rt.print("a reset for chip 0, KEYB 1 and DISP 1 for chip 1, sleep for chip 0: ")?;
+    with_room(rt, 2, &own)
 }
 
 // Beside 6, 7 and 8.
-fn other_refusals() {
+fn other_refusals(rt: &impl Print) -> io::Result<()> {
     let mut no_room = [0u8; 1];
     let before_6 = [0x202u16, 0x404];
-    put(b"sleep and an unlisted word: ");
-    with_room(1, &before_6);
+    rt.print("sleep and an unlisted word: ")?;
+    with_room(rt, 1, &before_6)?;
     let after_6 = [0x404u16, 0x202];
-    put(b"an unlisted word and sleep: ");
-    with_room(1, &after_6);
+    rt.print("an unlisted word and sleep: ")?;
+    with_room(rt, 1, &after_6)?;
     let after_7 = [0x403u16, 0x202];
-    put(b"KEYB 1 for chip 0 and sleep for chip 1: ");
-    with_room(2, &after_7);
+    rt.print("KEYB 1 for chip 0 and sleep for chip 1: ")?;
+    with_room(rt, 2, &after_7)?;
     let large = [0x1202u16];
-    put(b"sleep above 4,095: ");
-    with_room(1, &large);
+    rt.print("sleep above 4,095: ")?;
+    with_room(rt, 1, &large)?;
     let alone = [0x202u16];
-    put(b"sleep and no room: ");
-    answered(writer::write(1, &alone, &mut no_room));
+    rt.print("sleep and no room: ")?;
+    answered(rt, writer::write(1, &alone, &mut no_room))
 }
 
 // What DIG0 lights, and whether the chip sleeps.
-fn seen(ch: Chain) {
+fn seen(rt: &impl Print, ch: Chain) -> io::Result<()> {
     let c = chain::one::chip_at(0, ch);
     let lit = chip::segments::lit(c);
-    put_byte(lit[0]);
-    if c.settings.sleeping {
-        put(b", asleep");
+    let state = if c.settings.sleeping {
+        "asleep"
     } else {
-        put(b", awake");
-    }
-    line_end();
+        "awake"
+    };
+    println!(rt; "{:02x}, {state}", lit[0])
 }
 
 fn play(ch: Chain, row: &[u8]) -> Chain {
@@ -87,19 +86,19 @@ fn play(ch: Chain, row: &[u8]) -> Chain {
 }
 
 // The display on and 06H in DIG0, then off, then sleep.
-fn played() {
+fn played(rt: &impl Print) -> io::Result<()> {
     let words = [0x401u16, 0x806, 0x400, 0x202];
     let mut out = [0u8; 104];
-    put(b"DISP 1, 06H in DIG0, DISP 0, sleep: ");
-    answered(writer::write(1, &words, &mut out));
+    rt.print("DISP 1, 06H in DIG0, DISP 0, sleep: ")?;
+    answered(rt, writer::write(1, &words, &mut out))?;
     let s = &out[..];
     let start = chain::start(1);
     let lit = play(start.chain, &s[0..52]);
-    put(b"DIG0 lights ");
-    seen(lit);
+    rt.print("DIG0 lights ")?;
+    seen(rt, lit)?;
     let dark = play(lit, &s[52..78]);
-    put(b"before the sleep word DIG0 lights ");
-    seen(dark);
-    put(b"after it DIG0 lights ");
-    seen(play(dark, &s[78..104]));
+    rt.print("before the sleep word DIG0 lights ")?;
+    seen(rt, dark)?;
+    rt.print("after it DIG0 lights ")?;
+    seen(rt, play(dark, &s[78..104]))
 }

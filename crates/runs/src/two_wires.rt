@@ -1,18 +1,18 @@
 // C-15's run-only cases of the CH450: 18 and 20 rises, a repeated start, a stop with both lines moving, an unknown byte 1
 // while asleep, sample 4 after a good command, key codes 127 and 128, 64 and 65 commands, a buffer exact and one short. The command is 48H,
 // 01H, which turns the display on.
-use crate::chains::refusal;
-use crate::text::{line_end, put, put_byte};
+use crate::chains;
 use ch450::Panel;
 use ch450::play::{PlayAnswer, Played};
 use ch450::writer::Written;
+use std::io;
 
-pub fn run() {
-    rises();
-    edges();
-    asleep();
-    refused();
-    written();
+pub fn run(rt: &impl Print) -> io::Result<()> {
+    rises(rt)?;
+    edges(rt)?;
+    asleep(rt)?;
+    refused(rt)?;
+    written(rt)
 }
 
 // The command whole.
@@ -50,29 +50,29 @@ fn all_but_the_stop() -> Panel {
 }
 
 // An acknowledge is a clock, and the stop needs one.
-fn rises() {
-    put(b"CH450 19 rises: ");
-    shown(command(idle(), 0x23));
-    put(b"CH450 18 rises: ");
-    shown(play(bytes(), b"\x00\x01\x03"));
-    put(b"CH450 20 rises: ");
-    shown(play(bytes(), b"\x02\x03\x02\x03\x00\x01\x03"));
+fn rises(rt: &impl Print) -> io::Result<()> {
+    rt.print("CH450 19 rises: ")?;
+    shown(rt, command(idle(), 0x23))?;
+    rt.print("CH450 18 rises: ")?;
+    shown(rt, play(bytes(), b"\x00\x01\x03"))?;
+    rt.print("CH450 20 rises: ")?;
+    shown(rt, play(bytes(), b"\x02\x03\x02\x03\x00\x01\x03"))
 }
 
-fn edges() {
-    put(b"CH450 a repeated start: ");
-    shown(command(after(play(idle(), b"\x01\x02\x03")), 0x23));
-    put(b"CH450 a stop with both lines moving: ");
-    shown(play(all_but_the_stop(), b"\x03"));
+fn edges(rt: &impl Print) -> io::Result<()> {
+    rt.print("CH450 a repeated start: ")?;
+    shown(rt, command(after(play(idle(), b"\x01\x02\x03")), 0x23))?;
+    rt.print("CH450 a stop with both lines moving: ")?;
+    shown(rt, play(all_but_the_stop(), b"\x03"))
 }
 
 // SLEEP of a panel.
-fn sleep_of(p: Panel) {
-    bit(p.settings.sleep);
+fn sleep_of(p: Panel) -> u8 {
+    u8::from(p.settings.sleep)
 }
 
 // An unknown byte 1 leaves SLEEP, which no text can show; a read clears it. 48H, 81H, then 47H, 01H, then 4FH, FFH.
-fn asleep() {
+fn asleep(rt: &impl Print) -> io::Result<()> {
     let words = [0x4881u16];
     let mut out = [0u8; 40];
     ch450::writer::write(&words, &mut out);
@@ -83,22 +83,18 @@ fn asleep() {
     let read =
         b"\x01\x00\x01\x02\x03\x00\x01\x00\x01\x02\x03\x02\x03\x02\x03\x02\x03\x02\x03\x02\x03\x02\x03\x02\x03\x02\x03\x02\x03\x02\x03\x02\x03\x02\x03\x02\x03\x00\x01\x03";
     let awake = after(play(still, read));
-    put(b"CH450 asleep: SLEEP ");
-    sleep_of(sleeping);
-    put(b", after an unknown byte 1 ");
-    sleep_of(still);
-    put(b", after a read ");
-    sleep_of(awake);
-    line_end();
+    print!(rt; "CH450 asleep: SLEEP {}", sleep_of(sleeping))?;
+    print!(rt; ", after an unknown byte 1 {}", sleep_of(still))?;
+    println!(rt; ", after a read {}", sleep_of(awake))
 }
 
-fn refused() {
-    put(b"CH450 sample 4 after a good command: ");
-    shown(command_and_four(0x23));
-    put(b"CH450 key code 127: ");
-    shown(command(idle(), 127));
-    put(b"CH450 key code 128: ");
-    shown(command_and_four(128));
+fn refused(rt: &impl Print) -> io::Result<()> {
+    rt.print("CH450 sample 4 after a good command: ")?;
+    shown(rt, command_and_four(0x23))?;
+    rt.print("CH450 key code 127: ")?;
+    shown(rt, command(idle(), 127))?;
+    rt.print("CH450 key code 128: ")?;
+    shown(rt, command_and_four(128))
 }
 
 // A panel at power-on.
@@ -114,69 +110,47 @@ fn after(h: Played) -> Panel {
     h.panel
 }
 
-fn bit(on: bool) {
-    if on {
-        put(b"1");
-    } else {
-        put(b"0");
-    }
-}
-
 // How many reads there were, or the refusal; and the panel after it.
-fn shown(h: Played) {
-    let answer = h.answer;
-    match answer {
-        PlayAnswer::Reads(count) => {
-            io::print_decimal(1, count as u64);
-            put(b" reads");
-        }
-        PlayAnswer::Refused(e) => {
-            put(b"refused ");
-            refusal(e);
-        }
+fn shown(rt: &impl Print, h: Played) -> io::Result<()> {
+    match h.answer {
+        PlayAnswer::Reads(count) => print!(rt; "{count} reads")?,
+        PlayAnswer::Refused(e) => chains::refused(rt, e)?,
     }
     let p = h.panel;
-    put(b", DISP ");
-    bit(p.settings.disp);
-    put(b", levels ");
-    put_byte(p.wires.levels);
-    put(b", running ");
-    bit(p.wires.running);
-    line_end();
+    let disp = u8::from(p.settings.disp);
+    let running = u8::from(p.wires.running);
+    println!(rt;
+        ", DISP {disp}, levels {:02x}, running {running}",
+        p.wires.levels
+    )
 }
 
 // How many samples were written, or the refusal.
-fn answered(w: Written) {
+fn answered(rt: &impl Print, w: Written) -> io::Result<()> {
     match w {
-        Written::Samples(count) => {
-            io::print_decimal(1, count as u64);
-            put(b" samples");
-        }
-        Written::Refused(e) => {
-            put(b"refused ");
-            refusal(e);
-        }
+        Written::Samples(count) => print!(rt; "{count} samples")?,
+        Written::Refused(e) => chains::refused(rt, e)?,
     }
-    line_end();
+    rt.println("")
 }
 
-fn written() {
+fn written(rt: &impl Print) -> io::Result<()> {
     let all = [0x4801u16; 64];
     let mut exact = [0u8; 2560];
-    put(b"CH450 64 commands, the buffer exact: ");
-    answered(ch450::writer::write(&all, &mut exact));
+    rt.print("CH450 64 commands, the buffer exact: ")?;
+    answered(rt, ch450::writer::write(&all, &mut exact))?;
     let mut short = [0u8; 2559];
-    put(b"CH450 64 commands, the buffer one short: ");
-    answered(ch450::writer::write(&all, &mut short));
+    rt.print("CH450 64 commands, the buffer one short: ")?;
+    answered(rt, ch450::writer::write(&all, &mut short))?;
     let many = [0x4801u16; 65];
     let mut large = [0u8; 2600];
-    put(b"CH450 65 commands: ");
-    answered(ch450::writer::write(&many, &mut large));
+    rt.print("CH450 65 commands: ")?;
+    answered(rt, ch450::writer::write(&many, &mut large))?;
     let none = [0u16; 0];
-    put(b"CH450 no commands: ");
-    answered(ch450::writer::write(&none, &mut short));
+    rt.print("CH450 no commands: ")?;
+    answered(rt, ch450::writer::write(&none, &mut short))?;
     let read = [0x4801u16, 0x4F00];
-    put(b"CH450 a read in the list and no room: ");
+    rt.print("CH450 a read in the list and no room: ")?;
     let mut no_room = [0u8; 1];
-    answered(ch450::writer::write(&read, &mut no_room));
+    answered(rt, ch450::writer::write(&read, &mut no_room))
 }

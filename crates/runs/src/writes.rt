@@ -1,104 +1,93 @@
 // Document 01's cases of the writer: 64 and 65 rows, 8 and 9 chips, a buffer exact and one short, lists that are refused, and a
 // list that is written, played and scanned between.
-use crate::chains::refusal;
-use crate::text::{line_end, put, put_byte};
+use crate::chains::refused;
 use chain::Chain;
+use std::io;
 use writer::Written;
 
-pub fn run() {
-    rows();
-    chips();
-    lists();
-    played();
+pub fn run(rt: &impl Print) -> io::Result<()> {
+    rows(rt)?;
+    chips(rt)?;
+    lists(rt)?;
+    played(rt)
 }
 
 // How many samples were written, or the refusal.
-pub fn answered(w: Written) {
+pub fn answered(rt: &impl Print, w: Written) -> io::Result<()> {
     match w {
-        Written::Samples(count) => {
-            io::print_decimal(1, count as u64);
-            put(b" samples");
-        }
-        Written::Refused(e) => {
-            put(b"refused ");
-            refusal(e);
-        }
+        Written::Samples(count) => print!(rt; "{count} samples")?,
+        Written::Refused(e) => refused(rt, e)?,
     }
-    line_end();
+    rt.println("")
 }
 
 // A list, and what the writer answers with room for all of it.
-pub fn with_room(n: usize, words: &[u16]) {
+pub fn with_room(rt: &impl Print, n: usize, words: &[u16]) -> io::Result<()> {
     let mut out = [0u8; 220];
-    answered(writer::write(n, words, &mut out));
+    answered(rt, writer::write(n, words, &mut out))
 }
 
-fn rows() {
+fn rows(rt: &impl Print) -> io::Result<()> {
     let many = [0u16; 65];
     let all = [0u16; 64];
     let mut exact = [0u8; 1664];
-    put(b"64 rows, the buffer exact: ");
-    answered(writer::write(1, &all, &mut exact));
+    rt.print("64 rows, the buffer exact: ")?;
+    answered(rt, writer::write(1, &all, &mut exact))?;
     let mut short = [0u8; 1663];
-    put(b"64 rows, the buffer one short: ");
-    answered(writer::write(1, &all, &mut short));
+    rt.print("64 rows, the buffer one short: ")?;
+    answered(rt, writer::write(1, &all, &mut short))?;
     let mut large = [0u8; 1690];
-    put(b"65 rows: ");
-    answered(writer::write(1, &many, &mut large));
-    put(b"64 rows, the buffer longer: ");
-    answered(writer::write(1, &all, &mut large));
+    rt.print("65 rows: ")?;
+    answered(rt, writer::write(1, &many, &mut large))?;
+    rt.print("64 rows, the buffer longer: ")?;
+    answered(rt, writer::write(1, &all, &mut large))
 }
 
-fn chips() {
+fn chips(rt: &impl Print) -> io::Result<()> {
     let eight = [0u16; 8];
     let nine = [0u16; 9];
-    put(b"a row for 8 chips: ");
-    with_room(8, &eight);
-    put(b"a row for 9 chips: ");
-    with_room(9, &nine);
-    put(b"a list of 9 words for 8 chips: ");
-    with_room(8, &nine);
+    rt.print("a row for 8 chips: ")?;
+    with_room(rt, 8, &eight)?;
+    rt.print("a row for 9 chips: ")?;
+    with_room(rt, 9, &nine)?;
+    rt.print("a list of 9 words for 8 chips: ")?;
+    with_room(rt, 8, &nine)
 }
 
-fn lists() {
+fn lists(rt: &impl Print) -> io::Result<()> {
     let none = [0u16; 0];
     let mut no_room = [0u8; 1];
-    put(b"no words: ");
-    with_room(2, &none);
+    rt.print("no words: ")?;
+    with_room(rt, 2, &none)?;
     let last = [0x000u16, 0x403];
-    put(b"KEYB 1 for the last chip: ");
-    with_room(2, &last);
+    rt.print("KEYB 1 for the last chip: ")?;
+    with_room(rt, 2, &last)?;
     let first = [0x403u16, 0x000];
-    put(b"KEYB 1 for another chip: ");
-    with_room(2, &first);
+    rt.print("KEYB 1 for another chip: ")?;
+    with_room(rt, 2, &first)?;
     let full = [0x141u16, 0x17F];
-    put(b"bar levels 65 and 127: ");
-    with_room(2, &full);
+    rt.print("bar levels 65 and 127: ")?;
+    with_room(rt, 2, &full)?;
     let unlisted = [0x000u16, 0x404];
-    put(b"an unlisted word and no room: ");
-    answered(writer::write(2, &unlisted, &mut no_room));
+    rt.print("an unlisted word and no room: ")?;
+    answered(rt, writer::write(2, &unlisted, &mut no_room))?;
     let large = [5000u16, 0x403];
-    put(b"a word above 4,095: ");
-    with_room(2, &large);
+    rt.print("a word above 4,095: ")?;
+    with_room(rt, 2, &large)
 }
 
 // What stands in DIG0 of three chips, and the last one's key code.
-fn seen(ch: Chain) {
+fn seen(rt: &impl Print, ch: Chain) -> io::Result<()> {
     let a = chain::one::chip_at(0, ch);
     let b = chain::one::chip_at(1, ch);
     let c = chain::one::chip_at(2, ch);
     let p = a.digits;
     let q = b.digits;
     let r = c.digits;
-    put(b"DIG0 ");
-    put_byte(p[0]);
-    put(b" ");
-    put_byte(q[0]);
-    put(b" ");
-    put_byte(r[0]);
-    put(b", code ");
-    put_byte(c.keys.code);
-    line_end();
+    println!(rt;
+        "DIG0 {:02x} {:02x} {:02x}, code {:02x}",
+        p[0], q[0], r[0], c.keys.code
+    )
 }
 
 fn play(ch: Chain, block: &[u8]) -> Chain {
@@ -113,19 +102,19 @@ fn press(ch: Chain) -> Chain {
 
 // Three chips: 11H, 22H in the first two and the keypad on in the last; a key pressed in the middle of the second row, which
 // loads 33H in the last.
-fn played() {
+fn played(rt: &impl Print) -> io::Result<()> {
     let words = [0x811u16, 0x822, 0x403, 0x000, 0x000, 0x833];
     let mut out = [0u8; 148];
-    put(b"two rows for 3 chips: ");
-    answered(writer::write(3, &words, &mut out));
+    rt.print("two rows for 3 chips: ")?;
+    answered(rt, writer::write(3, &words, &mut out))?;
     let s = &out[..];
     let start = chain::start(3);
     let first = play(start.chain, &s[0..74]);
-    put(b"after the first row: ");
-    seen(first);
+    rt.print("after the first row: ")?;
+    seen(rt, first)?;
     let pressed = press(press(play(first, &s[74..100])));
-    put(b"a key pressed in the second row: ");
-    seen(pressed);
-    put(b"after the second row: ");
-    seen(play(pressed, &s[100..148]));
+    rt.print("a key pressed in the second row: ")?;
+    seen(rt, pressed)?;
+    rt.print("after the second row: ")?;
+    seen(rt, play(pressed, &s[100..148]))
 }
