@@ -1,9 +1,19 @@
 // Replays a text of two wires and writes the segments lit: standard input to standard output. All the work is in the library `wires`.
-fn main() {
-    let mut text = [0u8; 65537];
+#![tactic(auto)]
+
+use std::io;
+use std::io::Read;
+
+// One byte more than the longest text.
+const ROOM: usize = 65537;
+
+fn main(rt: HostRuntime) -> io::Result<()> {
+    let mut text = [0u8; ROOM];
     let mut out = [0u8; wires::ROOM];
-    let got = io::read_full(0, &mut text);
+    let mut rest = &mut text[..];
+    // a read that fails counts as the end
+    let _ = io::copy(&mut rt.stdin().take(ROOM as u64), &mut rest);
+    let got = ROOM.saturating_sub(rest.len());
     let r = wires::screen(&text[..got], &mut out);
-    let n = r.bytes;
-    io::write_all(1, &out[..n]);
+    rt.write_all(&out[..r.bytes])
 }

@@ -1,69 +1,61 @@
 // Reads a settings text from standard input and writes it again, or told `rows` the capture text that sets a panel to it. All the work is
 // in the library `settings`. The first bytes of a text, one more than the longest has, say all of it (`settings` proofs/Beginnings).
-use libc::{STDERR_FILENO, STDIN_FILENO, STDOUT_FILENO};
+#![tactic(auto)]
+
+use std::env::{Env, FillError};
+use std::io;
+use std::io::{Input, Read};
+
+// One byte more than the longest text.
+const ROOM: usize = settings::LONGEST + 1;
 
 // The text written again.
-fn again(text: &[u8]) {
+fn again(rt: &impl Print, text: &[u8]) -> io::Result<()> {
     let mut out = [0u8; settings::LONGEST];
     let r = settings::again(text, &mut out);
-    let n = r.bytes;
-    io::write_all(STDOUT_FILENO, &out[..n]);
+    rt.write_all(&out[..r.bytes])
 }
 
 // The capture text.
-fn rows(text: &[u8]) {
+fn rows(rt: &impl Print, text: &[u8]) -> io::Result<()> {
     let mut out = [0u8; settings::SETUP_ROOM];
     let r = settings::setup(text, &mut out);
-    let n = r.bytes;
-    io::write_all(STDOUT_FILENO, &out[..n]);
+    rt.write_all(&out[..r.bytes])
 }
 
-// Whether a word is `rows`.
-fn is_rows(word: &[u8]) -> bool {
-    if word.len() != 4 {
-        return false;
-    }
-    if word[0] != b'r' {
-        return false;
-    }
-    if word[1] != b'o' {
-        return false;
-    }
-    if word[2] != b'w' {
-        return false;
-    }
-    word[3] == b's'
+// What the program writes.
+#[derive(Clone, Copy)]
+enum Form {
+    Text,
+    Rows,
 }
 
-// Says on standard error how the program is called.
-fn usage() {
-    io::write_all(
-        STDERR_FILENO,
-        &[
-            b'u', b's', b'a', b'g', b'e', b':', b' ', b's', b'e', b't', b't', b'e', b'x', b't',
-            b' ', b'[', b'r', b'o', b'w', b's', b']', b'\n',
-        ],
-    );
+// What the program is told to write, where it is told that.
+fn told(rt: &impl Env) -> Option<Form> {
+    let mut word = [0u8; 4];
+    match (rt.arg(1, &mut word), rt.arg(2, &mut [])) {
+        (Err(FillError::NotPresent), _) => Some(Form::Text),
+        (Ok(_), Err(FillError::NotPresent)) if word == *b"rows" => Some(Form::Rows),
+        _ => None,
+    }
 }
 
-fn main() {
-    let mut text = [0u8; settings::LONGEST + 1];
-    let count = os::arg_count();
-    if count > 2 {
-        usage();
-        return;
+// Reads the settings text and writes it in this form.
+fn turn(rt: &(impl Input + Print), form: Form) -> io::Result<()> {
+    let mut text = [0u8; ROOM];
+    let mut rest = &mut text[..];
+    // a read that fails counts as the end
+    let _ = io::copy(&mut rt.reader().take(ROOM as u64), &mut rest);
+    let got = ROOM.saturating_sub(rest.len());
+    match form {
+        Form::Text => again(rt, &text[..got]),
+        Form::Rows => rows(rt, &text[..got]),
     }
-    if count < 2 {
-        let got = io::read_full(STDIN_FILENO, &mut text);
-        again(&text[..got]);
-        return;
+}
+
+fn main(rt: HostRuntime) -> io::Result<()> {
+    match told(&rt) {
+        Some(form) => turn(&rt, form),
+        None => rt.eprintln("usage: settext [rows]"),
     }
-    let mut word = io::buffer();
-    let length = os::arg(1, &mut word);
-    if !is_rows(&word[..length]) {
-        usage();
-        return;
-    }
-    let got = io::read_full(STDIN_FILENO, &mut text);
-    rows(&text[..got]);
 }

@@ -1,8 +1,16 @@
 // Counts captures, given as files by name, one after another, and writes the lines of their tally. All the work is in the library
 // `tallies`. Where a capture is refused, its place among the arguments is told on standard error, and no further one is read.
+#![tactic(auto)]
+
 use base::Verdict;
-use libc::{STDERR_FILENO, STDOUT_FILENO};
+use std::env::{Env, FillError};
+use std::io::{Read, Stderr, Write};
+use std::rt::Files;
+use std::{fs, io, str};
 use tallies::{Counted, Tally};
+
+// One byte more than the longest text.
+const ROOM: usize = 65537;
 
 // Whether a capture was taken to its end.
 fn is_taken(answer: Verdict) -> bool {
@@ -12,47 +20,69 @@ fn is_taken(answer: Verdict) -> bool {
     }
 }
 
-// Counts the capture that an argument names. One that can't be opened is told, and is an empty text.
-fn count_file(i: usize, tally: Tally) -> Counted {
-    let mut path = io::buffer();
-    let mut text = [0u8; 65537];
-    let length = os::arg(i, &mut path);
-    let fd = os::open_read(&path[..length]);
-    if fd < 0 {
-        os::fail(&path[..length]);
-        return tallies::count(tally, &text[..0]);
+// Opens the file of this name, which has to be UTF-8.
+fn open<R: Files>(rt: &R, name: &[u8]) -> io::Result<R::File> {
+    match str::from_utf8(name) {
+        Ok(path) => fs::open(rt, path),
+        Err(_) => Err(io::Error::from(io::ErrorKind::InvalidFilename)),
     }
-    let got = io::read_full(fd, &mut text);
-    libc::close(fd);
+}
+
+// Tells why a file can't be opened, by the system's words alone: `NAME: No such file or directory`. What can't be told is left.
+fn tell(errors: Stderr, name: &[u8], why: io::Error) {
+    let mut said = [0u8; 256];
+    let mut rest = &mut said[..];
+    let _ = write!(rest, "{why}");
+    let end = 256usize.saturating_sub(rest.len());
+    let text = str::from_utf8(&said[..end]).unwrap_or("");
+    let words = match text.split_once(" (os error ") {
+        Some((words, _)) => words,
+        None => text,
+    };
+    let _ = errors.write_all(name);
+    let _ = errors.println(format_args!(": {words}"));
+}
+
+// Counts the capture in the file of this name. One that can't be opened is told, and is an empty text.
+fn count_file(rt: &impl Files, errors: Stderr, name: &[u8], tally: Tally) -> Counted {
+    let mut text = [0u8; ROOM];
+    let mut rest = &mut text[..];
+    match open(rt, name) {
+        Ok(file) => {
+            // a read that fails counts as the end
+            let _ = io::copy(&mut file.take(ROOM as u64), &mut rest);
+        }
+        Err(why) => tell(errors, name, why),
+    }
+    let got = ROOM.saturating_sub(rest.len());
     tallies::count(tally, &text[..got])
 }
 
 // Counts one capture after another, up to the first that is refused.
-fn count_files(count: usize) -> Counted {
+fn count_files(rt: &(impl Env + Files), errors: Stderr) -> Counted {
+    let mut name = [0u8; 4096];
     let mut last = Counted {
         tally: tallies::fresh(),
         answer: Verdict::Done,
     };
-    let mut i = 1;
-    while i < count {
-        let so_far = last.tally;
-        last = count_file(i, so_far);
-        let answer = last.answer;
-        if !is_taken(answer) {
-            io::print_decimal(STDERR_FILENO, i as u64);
-            io::write_all(STDERR_FILENO, &[b'\n']);
-            return last;
+    for i in 1..usize::MAX {
+        let length = match rt.arg(i, &mut name) {
+            Ok(length) => length,
+            Err(FillError::TooLong) => 0,
+            Err(FillError::NotPresent) => break,
+        };
+        last = count_file(rt, errors, &name[..length], last.tally);
+        if !is_taken(last.answer) {
+            let _ = errors.println(i);
+            break;
         }
-        i += 1;
     }
     last
 }
 
-fn main() {
+fn main(rt: HostRuntime) -> io::Result<()> {
     let mut out = [0u8; tallies::ROOM];
-    let counted = count_files(os::arg_count());
-    let tally = counted.tally;
-    let answer = counted.answer;
-    let n = tallies::print(tally, answer, &mut out);
-    io::write_all(STDOUT_FILENO, &out[..n]);
+    let counted = count_files(&rt, rt.stderr());
+    let n = tallies::print(counted.tally, counted.answer, &mut out);
+    Print::write_all(&rt, &out[..n])
 }
