@@ -1,1 +1,3 @@
+#![tactic(auto)]
+
 // The demands: theorems alone, no code.
