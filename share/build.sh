@@ -26,7 +26,7 @@ sum_of() {
         cd -- "$here" || exit
         crates=$(crates_of "$1") && [ -n "$crates" ] || exit
         folders=$(for crate in $crates; do printf 'crates/%s ' "$crate"; done)
-        sums=$(find $folders -type f ! -path '*/must-fail/*' -exec sha256sum {} +) || exit
+        sums=$(find $folders -type f ! -path '*/must-fail/*' ! -path '*/out/*' -exec sha256sum {} +) || exit
         printf '%s\n' "$crates" "$sums" | LC_ALL=C sort | sha256sum | cut -c 1-16
     ) 2>/dev/null
 }
@@ -67,14 +67,15 @@ build_now() {
     put_in_place "$1" 2>/dev/null || fail "$1 is built, but can't be copied to $run"
 }
 
-# proved PROGRAM: rt proves and builds it, and each crate that it proves is named; all that rt says goes to target/run/log
+# proved PROGRAM: rt proves and builds it, and runs it on nothing; each crate that it proves is named; all that rt says goes to
+# target/run/log
 proved() {
-    total=$(crates_of "$1" | wc -l)
-    count=0
+    below=$(crates_of "$1")
+    total=$(printf '%s\n' "$below" | wc -l)
     say "building $1, which proves what it stands on first: $total crates, two to four minutes if none is proved yet"
-    [ -x "$here/target/bin/$1" ] || rm -f "$here/target/stamp/$1"
+    began=$(date +%s%N)
     (
-        cd -- "$here" && (exec rt check "$1" </dev/null 2>&1)
+        cd -- "$here/crates/$1" && (exec rt run </dev/null 2>&1)
         echo "status $?"
     ) 2>/dev/null | while IFS= read -r line; do
         case $line in
@@ -82,10 +83,17 @@ proved() {
         'status '*) exit 1 ;;
         esac
         printf '%s\n' "$line"
-        case $line in 'rt: '*' proved ('*) ;; *) continue ;; esac
-        count=$((count + 1))
-        line=${line#rt: }
-        case $line in *'(unchanged'*) ;; *) say "$count of $total crates: $line" ;; esac
+        case $line in
+        'crate '*': '*)
+            crate=${line#crate }
+            crate=${crate%%:*}
+            ;;
+        'logic=proved '*)
+            now=$(date +%s%N)
+            say "$(printf '%s\n' "$below" | awk -v name="$crate" '$0 == name { print NR }') of $total crates: $crate proved ($(((now - began) / 1000000000)) s)"
+            began=$now
+            ;;
+        esac
     done >"$run/log"
 }
 
@@ -95,7 +103,7 @@ put_in_place() {
     for file in "$lib/ld-linux-x86-64.so.2" "$lib/libc.so.6" $emulator; do
         cp "$file" "$needs/new" && mv -f "$needs/new" "$needs/${file##*/}" || return
     done
-    cp "$here/target/bin/$1" "$run/new" && mv -f "$run/new" "$built_program" || return
+    cp "$here/crates/$1/out/$1" "$run/new" && mv -f "$run/new" "$built_program" || return
     for file in "$run/$1"-*; do [ "$file" = "$built_program" ] || rm -f "$file"; done
 }
 
