@@ -4,20 +4,20 @@
 
 use std::env::{Env, FillError};
 use std::io;
-use std::io::{Input, Read};
+use std::io::Read;
 
 // One byte more than the longest text.
 const ROOM: usize = settings::LONGEST + 1;
 
 // The text written again.
-fn again(rt: &impl Print, text: &[u8]) -> io::Result<()> {
+fn again(rt: HostRuntime, text: &[u8]) -> io::Result<()> {
     let mut out = [0u8; settings::LONGEST];
     let r = settings::again(text, &mut out);
     rt.write_all(&out[..r.bytes])
 }
 
 // The capture text.
-fn rows(rt: &impl Print, text: &[u8]) -> io::Result<()> {
+fn rows(rt: HostRuntime, text: &[u8]) -> io::Result<()> {
     let mut out = [0u8; settings::SETUP_ROOM];
     let r = settings::setup(text, &mut out);
     rt.write_all(&out[..r.bytes])
@@ -31,7 +31,7 @@ enum Form {
 }
 
 // What the program is told to write, where it is told that.
-fn told(rt: &impl Env) -> Option<Form> {
+fn told(rt: HostRuntime) -> Option<Form> {
     let mut word = [0u8; 4];
     match (rt.arg(1, &mut word), rt.arg(2, &mut [])) {
         (Err(FillError::NotPresent), _) => Some(Form::Text),
@@ -41,11 +41,11 @@ fn told(rt: &impl Env) -> Option<Form> {
 }
 
 // Reads the settings text and writes it in this form.
-fn turn(rt: &(impl Input + Print), form: Form) -> io::Result<()> {
+fn turn(rt: HostRuntime, form: Form) -> io::Result<()> {
     let mut text = [0u8; ROOM];
     let mut rest = &mut text[..];
     // a read that fails counts as the end
-    let _ = io::copy(&mut rt.reader().take(ROOM as u64), &mut rest);
+    let _ = io::copy(&mut rt.stdin().take(ROOM as u64), &mut rest);
     let got = ROOM.saturating_sub(rest.len());
     match form {
         Form::Text => again(rt, &text[..got]),
@@ -54,8 +54,8 @@ fn turn(rt: &(impl Input + Print), form: Form) -> io::Result<()> {
 }
 
 fn main(rt: HostRuntime) -> io::Result<()> {
-    match told(&rt) {
-        Some(form) => turn(&rt, form),
+    match told(rt) {
+        Some(form) => turn(rt, form),
         None => rt.eprintln("usage: settext [rows]"),
     }
 }

@@ -4,9 +4,10 @@
 
 use base::Verdict;
 use std::env::{Env, FillError};
-use std::io::{Read, Stderr, Write};
+use std::fs::{File, OpenOptions};
+use std::io::{Read, Write};
 use std::rt::Files;
-use std::{fs, io, str};
+use std::{io, str};
 use tallies::{Counted, Tally};
 
 // One byte more than the longest text.
@@ -21,15 +22,15 @@ fn is_taken(answer: Verdict) -> bool {
 }
 
 // Opens the file of this name, which has to be UTF-8.
-fn open<R: Files>(rt: &R, name: &[u8]) -> io::Result<R::File> {
+fn open(rt: HostRuntime, name: &[u8]) -> io::Result<File> {
     match str::from_utf8(name) {
-        Ok(path) => fs::open(rt, path),
+        Ok(path) => rt.open_file(OpenOptions::new().read(true), path),
         Err(_) => Err(io::Error::from(io::ErrorKind::InvalidFilename)),
     }
 }
 
 // Tells why a file can't be opened, by the system's words alone: `NAME: No such file or directory`. What can't be told is left.
-fn tell(errors: Stderr, name: &[u8], why: io::Error) {
+fn tell(rt: HostRuntime, name: &[u8], why: io::Error) {
     let mut said = [0u8; 256];
     let mut rest = &mut said[..];
     let _ = write!(rest, "{why}");
@@ -39,12 +40,13 @@ fn tell(errors: Stderr, name: &[u8], why: io::Error) {
         Some((words, _)) => words,
         None => text,
     };
-    let _ = errors.write_all(name);
+    let errors = rt.stderr();
+    let _ = Print::write_all(&errors, name);
     let _ = errors.println(format_args!(": {words}"));
 }
 
 // Counts the capture in the file of this name. One that can't be opened is told, and is an empty text.
-fn count_file(rt: &impl Files, errors: Stderr, name: &[u8], tally: Tally) -> Counted {
+fn count_file(rt: HostRuntime, name: &[u8], tally: Tally) -> Counted {
     let mut text = [0u8; ROOM];
     let mut rest = &mut text[..];
     match open(rt, name) {
@@ -52,14 +54,14 @@ fn count_file(rt: &impl Files, errors: Stderr, name: &[u8], tally: Tally) -> Cou
             // a read that fails counts as the end
             let _ = io::copy(&mut file.take(ROOM as u64), &mut rest);
         }
-        Err(why) => tell(errors, name, why),
+        Err(why) => tell(rt, name, why),
     }
     let got = ROOM.saturating_sub(rest.len());
     tallies::count(tally, &text[..got])
 }
 
 // Counts one capture after another, up to the first that is refused.
-fn count_files(rt: &(impl Env + Files), errors: Stderr) -> Counted {
+fn count_files(rt: HostRuntime) -> Counted {
     let mut name = [0u8; 4096];
     let mut last = Counted {
         tally: tallies::fresh(),
@@ -71,9 +73,9 @@ fn count_files(rt: &(impl Env + Files), errors: Stderr) -> Counted {
             Err(FillError::TooLong) => 0,
             Err(FillError::NotPresent) => break,
         };
-        last = count_file(rt, errors, &name[..length], last.tally);
+        last = count_file(rt, &name[..length], last.tally);
         if !is_taken(last.answer) {
-            let _ = errors.println(i);
+            let _ = rt.stderr().println(i);
             break;
         }
     }
@@ -82,7 +84,7 @@ fn count_files(rt: &(impl Env + Files), errors: Stderr) -> Counted {
 
 fn main(rt: HostRuntime) -> io::Result<()> {
     let mut out = [0u8; tallies::ROOM];
-    let counted = count_files(&rt, rt.stderr());
+    let counted = count_files(rt);
     let n = tallies::print(counted.tally, counted.answer, &mut out);
     Print::write_all(&rt, &out[..n])
 }

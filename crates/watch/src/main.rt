@@ -5,7 +5,7 @@
 use capture::Report;
 use std::env::{Env, FillError};
 use std::io;
-use std::io::{Input, Read};
+use std::io::Read;
 use streams::Kind;
 
 // Whether the stream goes on.
@@ -18,11 +18,11 @@ fn is_open(kind: Kind) -> bool {
 
 // Reads again and again, and writes what each read brought, and at last what the end brings. A read that fails counts as the end. A proved
 // loop has to end, and nothing says that a stream does: so the loop counts its turns, up to a number that no run uses up.
-fn watch(rt: &(impl Input + Print), what: Report) -> io::Result<()> {
+fn watch(rt: HostRuntime, what: Report) -> io::Result<()> {
     let mut bytes = [0u8; 4096];
     let mut out = [0u8; streams::ROOM];
     let mut stream = streams::start();
-    let mut input = rt.reader();
+    let mut input = rt.stdin();
     for _ in 0..u64::MAX {
         let count = input.read(&mut bytes).unwrap_or(0);
         if count == 0 {
@@ -40,7 +40,7 @@ fn watch(rt: &(impl Input + Print), what: Report) -> io::Result<()> {
 }
 
 // What the program is told to write, where it is told that.
-fn told(rt: &impl Env) -> Option<Report> {
+fn told(rt: HostRuntime) -> Option<Report> {
     let mut word = [0u8; 6];
     match (rt.arg(1, &mut word), rt.arg(2, &mut [])) {
         (Err(FillError::NotPresent), _) => Some(Report::Words),
@@ -50,8 +50,8 @@ fn told(rt: &impl Env) -> Option<Report> {
 }
 
 fn main(rt: HostRuntime) -> io::Result<()> {
-    match told(&rt) {
-        Some(what) => watch(&rt, what),
+    match told(rt) {
+        Some(what) => watch(rt, what),
         None => rt.eprintln("usage: watch [screen]"),
     }
 }
