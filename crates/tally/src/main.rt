@@ -2,12 +2,14 @@
 // `tallies`. Where a capture is refused, its place among the arguments is told on standard error, and no further one is read.
 #![tactic(auto)]
 
+ghost use Rattle.std.specs.Prelude.{◌≤◌};
+
 use base::Verdict;
 use std::env::{Env, FillError};
 use std::fs::{File, OpenOptions};
 use std::io::{Read, Write};
 use std::rt::Files;
-use std::{io, str};
+use std::{io, mem, str};
 use tallies::{Counted, Tally};
 
 // One byte more than the longest text.
@@ -45,18 +47,31 @@ fn tell(rt: HostRuntime, name: &[u8], why: io::Error) {
     let _ = errors.println(format_args!(": {words}"));
 }
 
+// Reads until the text is full, the file ends or a read fails, and returns how many bytes came.
+fn fill(mut file: File, text: &mut [u8; ROOM]) -> usize
+    ensures { result ≤ ROOM }
+{
+    let mut rest = &mut text[..];
+    for _ in 0..ROOM {
+        let count = file.read(rest).unwrap_or(0);
+        if count == 0 {
+            break;
+        }
+        rest = &mut mem::take(&mut rest)[count..];
+    }
+    ROOM.saturating_sub(rest.len())
+}
+
 // Counts the capture in the file of this name. One that can't be opened is told, and is an empty text.
 fn count_file(rt: HostRuntime, name: &[u8], tally: Tally) -> Counted {
     let mut text = [0u8; ROOM];
-    let mut rest = &mut text[..];
-    match open(rt, name) {
-        Ok(file) => {
-            // a read that fails counts as the end
-            let _ = io::copy(&mut file.take(ROOM as u64), &mut rest);
+    let got = match open(rt, name) {
+        Ok(file) => fill(file, &mut text),
+        Err(why) => {
+            tell(rt, name, why);
+            0
         }
-        Err(why) => tell(rt, name, why),
-    }
-    let got = ROOM.saturating_sub(rest.len());
+    };
     tallies::count(tally, &text[..got])
 }
 
