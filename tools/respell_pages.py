@@ -29,10 +29,11 @@ def turned(m):
     return new if old not in names and new in names else old
 
 
-for path in ["README.md"] + sorted(glob.glob("docs/*.md")):
+for path in ["README.md"] + sorted(set(glob.glob("docs/*.md")) - {"docs/PORT.md"}):
     with open(path, encoding="utf-8") as f:
         text = f.read()
-    new = re.sub(r"`[^`\n]+`", lambda m: NAME.sub(turned, m[0]), text)
+    # an option of the command keeps its dash
+    new = re.sub(r"`[^`\n]+`", lambda m: m[0] if m[0].startswith("`--") else NAME.sub(turned, m[0]), text)
     if new != text:
         with open(path, "w", encoding="utf-8") as f:
             f.write(new)
