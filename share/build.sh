@@ -26,7 +26,7 @@ sum_of() {
         cd -- "$here" || exit
         crates=$(crates_of "$1") && [ -n "$crates" ] || exit
         folders=$(for crate in $crates; do printf 'crates/%s ' "$crate"; done)
-        sums=$(find $folders -type f ! -path '*/must-fail/*' ! -path '*/out/*' -exec sha256sum {} +) || exit
+        sums=$(find $folders -type d \( -name must-fail -o -name out \) -prune -o -type f -exec sha256sum {} +) || exit
         printf '%s\n' "$crates" "$sums" | LC_ALL=C sort | sha256sum | cut -c 1-16
     ) 2>/dev/null
 }
