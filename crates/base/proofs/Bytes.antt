@@ -4,20 +4,19 @@
 --     byte_same       bytes whose eight bits agree are the same
 --     byte_back       a byte is made of its own bits
 --     bar_byte        the byte of a digit under a bar, by the number of its lit segments
---     bit_at_most     a byte with a bit set is at least that power of two
---     bit_made        a byte with one bit made on or off, by a sum or a difference
+--     bit_made        a byte with one bit made on or off, by a mask
 -- Assumes nothing.
 use mathlib.Core.Path.{◌≡◌, ap, ◌∙◌}
 use mathlib.Core.Bool.{Bool, true, false}
-use Prim.Native.Nat.{ℕ, ◌+◌, ◌-◌, ◌*◌, ◌/◌, ◌%◌, ◌^◌, ◌≤◌, ◌<◌}
-use native.Mathlib.Nat.{div-eq_of_lt}
+use Prim.Native.Nat.{ℕ, ◌+◌, ◌-◌, ◌*◌, ◌/◌, ◌%◌, ◌^◌, ◌<◌}
 use native.Mathlib.Omega.{arith}
 use lib.Dec.{T, eqb, leb, ltb, lit<}
+use lib.Bits.{bit_and, bit_or}
 use Rattle.base.specs.Pick.{pick}
 use Rattle.base.specs.Bits.{cut, bit, bit_value, byte_of}
 use Rattle.base.specs.Below.{below, EachBelow}
 use Rattle.base.proofs.Cuts.{bit_value_lt, bit_value_back}
-use Rattle.base.proofs.Tests.{at_below, eq_below, each_below, by_order}
+use Rattle.base.proofs.Tests.{at_below, eq_below, each_below}
 
 -- a byte made of bits, by the numbers of its bits
 byte_is : (f : ℕ → Bool) → (byte_of f < 256) × EachBelow (λ s. cut (byte_of f) s 1 ≡ bit_value (f s)) 8
@@ -66,13 +65,10 @@ bar_byte =
     eq_below₂ (λ dig level. byte_of (λ s. ltb (8 * s + dig) level))
     (λ dig level. pick (leb 8 (lit_of_lem level dig)) 255 (cut 255 (8 - lit_of_lem level dig) 8)) 8 256 tt
 
+-- a byte with a bit put in, or masked out
 abbrev made : Bool → ℕ → ℕ → ℕ
-made on seg byte = pick (eqb (cut byte seg 1) (bit_value on)) byte (pick on (byte + 2 ^ seg) (byte - 2 ^ seg))
+made on seg byte = pick on (bit_or byte (1 * 2 ^ seg % 256)) (bit_and byte (255 - 1 * 2 ^ seg % 256))
 
 pub bit_made : (on : Bool) (seg byte : ℕ) → seg < 8 → byte < 256 → byte_of (λ s. pick (eqb s seg) on (bit byte s)) ≡ made on seg byte
 bit_made true = eq_below₂ (λ seg byte. byte_of (λ s. pick (eqb s seg) true (bit byte s))) (made true) 8 256 tt
 bit_made false = eq_below₂ (λ seg byte. byte_of (λ s. pick (eqb s seg) false (bit byte s))) (made false) 8 256 tt
-
-pub bit_at_most : (byte seg : ℕ) → (cut byte seg 1 ≡ 0 → ⊥) → 2 ^ seg ≤ byte
-bit_at_most byte seg set =
-    by_order (2 ^ seg) byte (λ h. h) (λ h. absurd (set (ap (λ x. x % 2) (div-eq_of_lt h))))

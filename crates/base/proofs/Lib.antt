@@ -5,6 +5,7 @@ pub mod Bytes
 pub mod Bits
 pub mod Lists
 pub mod Refusals
+pub mod Samples
 pub mod Unique
 pub mod Claims
 pub mod Lent

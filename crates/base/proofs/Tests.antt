@@ -1,13 +1,13 @@
 -- What a computed test over all numbers below a bound says of each of them.
 -- Assumes nothing.
-use mathlib.Core.Path.{◌≡◌, refl, ap, subst, sym, ◌∙◌}
-use mathlib.Core.Bool.{Bool, true, false, not, ◌&&◌}
+use mathlib.Core.Path.{◌≡◌, refl, subst, sym, ◌∙◌}
+use mathlib.Core.Bool.{Bool, true, false, ◌&&◌}
 use mathlib.Core.Logic.{⊎_elim}
 use Prim.Native.Nat.{ℕ, zero, suc, ◌≤◌, ◌<◌}
 use native.Mathlib.Nat.{not-suc-le-zero, eq-or-lt_of_le, le_of_suc-le-suc}
 use lib.Arith.{lt_of_le-ne}
-use lib.Dec.{T, leb, ltb, eqb, eqb→eq}
-use borrow.Author.Tests.{leb-true, leb-false, eqb-true, eqb-false, eq-eqb, ne_eqb, lt-ltb, le-ltb, le-leb, lt-leb}
+use lib.Dec.{T, leb, eqb, eqb→eq}
+use borrow.Author.Tests.{leb-true, leb-false, eqb-true, eqb-false, eq-eqb, ne_eqb}
 use Rattle.base.specs.Below.{below, EachBelow}
 
 -- a test that holds is true
@@ -69,7 +69,3 @@ by_equality {A = A} m n f g = go (eqb m n) refl
 pub eqb_same : (m n p q : ℕ) → (m ≡ n → p ≡ q) → (p ≡ q → m ≡ n) → eqb m n ≡ eqb p q
 eqb_same m n p q f g =
     by_equality p q (λ e. eq-eqb m n (g e) ∙ sym (eq-eqb p q e)) (λ ne. ne_eqb m n (λ e. ne (f e)) ∙ sym (ne_eqb p q ne))
-
--- what isn't below is at least
-pub not_ltb : (a b : ℕ) → not (ltb a b) ≡ leb b a
-not_ltb a b = by_order b a (λ h. ap not (le-ltb a b h) ∙ sym (le-leb b a h)) (λ h. ap not (lt-ltb a b h) ∙ sym (lt-leb b a h))

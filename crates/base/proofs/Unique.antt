@@ -1,18 +1,23 @@
 -- The contracts of this crate's functions allow one outcome each (`AllowsOne` of specs/Unique), and the forms that contracts have.
 --     same_answer      a contract `r ≡ x`
 --     same_telling     a contract `tells r ≡ x`, where what is told gives the answer back
---     same_verdict     two verdicts that tell the same are the same
+--     same_result      two answers that tell the same are the same
+--     same_told        a contract `tells r ≡ x` of an answer
+--     same_handed      a contract `handed r ≡ x` of a value handed back and an answer
 -- Assumes nothing.
 use mathlib.Core.Path.{◌≡◌, refl, ap, sym, ◌∙◌}
-use Rattle.base.specs.Refusals.{Told, done, refused, verdict_tells}
+use Rattle.base.specs.Refusals.{Told, done, refused, tells, Outcome, handed}
+use Rattle.base.specs.declared.Handed.{Handed}
 use Rattle.base.specs.Unique.{AllowsOne}
-use Rattle.base.specs.declared.Verdict.{Verdict}
-use Rattle.base.specs.declared.Verdict.TheVariants as Verdicts
 use Rattle.base.proofs.Refusals.{refusal_of, refusal_back}
 use Rattle.base.proofs.field
 use Rattle.base.proofs.number
 use Rattle.base.proofs.place
+use Rattle.base.proofs.checked
 use Rattle.base.proofs.bit_value
+use Rattle.std.specs.declared.result.Result.{Result}
+use Rattle.std.specs.declared.result.Result.TheVariants.{Ok, Err}
+use Rattle.base.specs.declared.Refusal.{Refusal}
 
 -- a contract `r ≡ x`
 pub same_answer {ℓ} : {A : Type ℓ} {x r s : A} → r ≡ x → s ≡ x → r ≡ s
@@ -23,18 +28,28 @@ pub same_telling {ℓ κ} : {A : Type ℓ} {X : Type κ} (tells : A → X) (back
     → {x : X} (r s : A) → tells r ≡ x → tells s ≡ x → r ≡ s
 same_telling tells back e r s p q = sym (e r) ∙ ap back (same_answer p q) ∙ e s
 
-verdict : Told (Unit {0}) → Verdict
-verdict (done u) = Verdicts.Done
-verdict (refused number place) = Verdicts.Refused (refusal_of number place)
+answered : {A : Type 0} → Told A → Result A Refusal
+answered (done a) = Ok a
+answered (refused number place) = Err (refusal_of number place)
 
-verdict_back : (v : Verdict) → verdict (verdict_tells v) ≡ v
-unfolding verdict
-verdict_back Verdicts.Done = refl
-verdict_back (Verdicts.Refused e) = ap Verdicts.Refused (refusal_back e)
+answered_back : {A : Type 0} (r : Result A Refusal) → answered (tells r) ≡ r
+unfolding answered
+answered_back (Ok a) = refl
+answered_back (Err e) = ap Err (refusal_back e)
 
--- two verdicts that tell the same are the same
-pub same_verdict : {v w : Verdict} → verdict_tells v ≡ verdict_tells w → v ≡ w
-same_verdict {v} {w} e = sym (verdict_back v) ∙ ap verdict e ∙ verdict_back w
+-- two answers that tell the same are the same
+pub same_result : {A : Type 0} {r s : Result A Refusal} → tells r ≡ tells s → r ≡ s
+same_result {r = r} {s = s} e = sym (answered_back r) ∙ ap answered e ∙ answered_back s
+
+-- a contract `tells r ≡ x`
+pub same_told : {A : Type 0} {x : Told A} {r s : Result A Refusal} → tells r ≡ x → tells s ≡ x → r ≡ s
+same_told p q = same_result (same_answer p q)
+
+-- a contract `handed r ≡ x`
+pub same_handed : {S A : Type 0} {x : Outcome S A} {r s : Handed S A} → handed r ≡ x → handed s ≡ x → r ≡ s
+same_handed {r = r} {s = s} p q =
+    let e = same_answer p q in
+    λ i. record { value = ap (λ o. o.state) e i; answer = same_result {r = r.answer} {s = s.answer} (ap (λ o. o.told) e) i }
 
 -- ---- the functions
 
@@ -49,3 +64,6 @@ number_unique κs a x y last last' p q = (same_answer p q, refl)
 
 pub place_unique : AllowsOne place.Kinds.ps place.Kinds.r place.Reads.Learnt
 place_unique κs a x y last last' p q = (same_answer p q, refl)
+
+pub checked_unique : AllowsOne checked.Kinds.ps checked.Kinds.r checked.Reads.Learnt
+checked_unique κs a x y last last' p q = (same_told p q, refl)

@@ -2,9 +2,10 @@
 -- Assumes nothing.
 use Rattle.std.specs.Prelude.{ℕ}
 use Rattle.base.specs.declared.Refusal.{Refusal}
-use Rattle.base.specs.declared.Verdict.{Verdict}
-use Rattle.base.specs.declared.Verdict.TheVariants as Verdicts
+use Rattle.base.specs.declared.Handed.{Handed}
 use Rattle.base.specs.declared.Refusal.TheVariants.{Sample, ScanChip, ChipCount, PartRow, Rows, Unlisted, Keypad, Room, Field, Line, Text, Record, LitSleep, Version, Setting, Count}
+use Rattle.std.specs.declared.result.Result.{Result}
+use Rattle.std.specs.declared.result.Result.TheVariants.{Ok, Err}
 
 -- what an entry tells its caller: the answer, or a refusal's number and place
 pub data Told {ℓ} (A : Type ℓ) : Type ℓ where
@@ -58,15 +59,19 @@ place_of (Count place) = place
 abbrev pub refused_by {ℓ} : {A : Type ℓ} → Refusal → Told A
 refused_by e = refused (number_of e) (place_of e)
 
--- what a verdict tells
-abbrev pub verdict_tells : Verdict → Told (Unit {0})
-verdict_tells Verdicts.Done = done tt
-verdict_tells (Verdicts.Refused e) = refused_by e
+-- what an answer tells: its value, or the number and the place of the refusal
+abbrev pub tells : {A : Type 0} → Result A Refusal → Told A
+tells (Ok answer) = done answer
+tells (Err e) = refused_by e
 
 -- a value that an entry hands back, and what it tells
 pub record Outcome (S A : Type 0) : Type 0 where
   pub state : S
   pub told : Told A
+
+-- what an entry hands back, and what its answer tells
+abbrev pub handed : {S A : Type 0} → Handed S A → Outcome S A
+handed r = record { state = r.value; told = tells r.answer }
 
 -- a refusal, with the value as it was given (zeros where none was given)
 abbrev pub hands_back : {S A : Type 0} → S → ℕ → ℕ → Outcome S A
@@ -76,3 +81,8 @@ hands_back s number place = record { state = s; told = refused number place }
 abbrev pub once_tested : {S A : Type 0} → Told (Unit {0}) → S → Outcome S A → Outcome S A
 once_tested (done u) given next = next
 once_tested (refused number place) given next = hands_back given number place
+
+-- two tests, one after the other: the refusal is that of the first that isn't passed
+abbrev pub then_tested : Told (Unit {0}) → Told (Unit {0}) → Told (Unit {0})
+then_tested (done u) next = next
+then_tested (refused number place) next = refused number place

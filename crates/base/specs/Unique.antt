@@ -1,6 +1,6 @@
 -- What it is for a function's contract to allow one outcome only (document 01, "How tight the statements are").
 --     AllowsOne           of a function that the borrow checker covers
---     AllowsOneWalked     of a function that is proved by a walk
+--     AllowsOneWalked     of any contract, read by its generated clauses
 -- Assumes nothing.
 use Rattle.std.specs.Prelude.{◌≡◌, List, ℕ}
 use seplogic.Ra.Ura.{Ura}
@@ -23,7 +23,7 @@ AllowsOne {n} ps r learnt = (κs : Lfts n) (a : Dens κs ps) (x y : (res_t r κs
     → learnt κs a y (at_exit (ended_of n ps r) κs a last')
     → (x ≡ y) × (last ≡ last')
 
--- `ended` and `clauses` are the generated definitions of a function's signature and contract. A walked function has no `Reads`, so it is
+-- `ended` and `clauses` are the generated definitions of a function's signature and contract. Of a contract that is read by these it is
 -- said here that what `clauses` ensures is one plain fact, `learnt`, whatever the logic's other arguments are; and that allows one outcome
 pub record AllowsOneWalked (ended : Ended) (clauses : (M : Type 1) (𝓤 : Ura M) (𝓛 : Logic 𝓤) → (Memory → SProp 𝓤) → (Routine → Fun 𝓤) → Clauses 𝓤 ended) : Type 2 where
   pub learnt : (κs : Lfts ended.signature.lifetimes) → Args ended.signature κs → Res ended.signature κs → AtExit ended κs → Type 0

@@ -1,10 +1,11 @@
-// The ground floor: the refusals that document 01 numbers, with number and place of each, and the one leaf that cuts fields of
-// numbers by shifts and masks. The functions are inner ones, for the other crates; users have no entry here. Nothing here has a `requires`.
+// The ground floor: the refusals that document 01 numbers, with number and place of each, the test of samples, and the one leaf that
+// cuts fields of numbers by shifts and masks. The functions are inner ones, for the other crates; users have no entry here. Nothing here has a `requires`.
 #![tactic(auto)]
 
 ghost use Rattle.std.specs.Prelude.{◌≡◌};
 ghost use Rattle.base.specs.Bits.{cut, bit_value};
-ghost use Rattle.base.specs.Refusals.{number_of, place_of};
+ghost use Rattle.base.specs.Refusals.{number_of, place_of, tells};
+ghost use Rattle.base.specs.Samples.{checked_from};
 
 // Why an input was refused, with the place that document 01 names, where it names one.
 #[derive(Clone, Copy)]
@@ -46,11 +47,11 @@ pub enum Refusal {
     Count(u64),
 }
 
-// What an entry says that hands a value back: it did what was asked, or it refused and changed nothing.
+// What an entry hands back, and its answer: where it refuses, the value is the one that was given, or zeros where none was.
 #[derive(Clone, Copy)]
-pub enum Verdict {
-    Done,
-    Refused(Refusal),
+pub struct Handed<S, A> {
+    pub value: S,
+    pub answer: Result<A, Refusal>,
 }
 
 // Document 01's number of a refusal.
@@ -82,22 +83,32 @@ pub fn place(e: Refusal) -> u64
     ensures { result ≡ place_of e }
 {
     match e {
-        Refusal::Sample(at) => at,
-        Refusal::ScanChip => 0,
-        Refusal::ChipCount => 0,
-        Refusal::PartRow => 0,
-        Refusal::Rows => 0,
-        Refusal::Unlisted(at) => at,
-        Refusal::Keypad(at) => at,
-        Refusal::Room => 0,
-        Refusal::Field(at) => at,
-        Refusal::Line(at) => at,
-        Refusal::Text => 0,
-        Refusal::Record => 0,
-        Refusal::LitSleep(at) => at,
-        Refusal::Version(at) => at,
-        Refusal::Setting(at) => at,
-        Refusal::Count(at) => at,
+        Refusal::Sample(at)
+        | Refusal::Unlisted(at)
+        | Refusal::Keypad(at)
+        | Refusal::Field(at)
+        | Refusal::Line(at)
+        | Refusal::LitSleep(at)
+        | Refusal::Version(at)
+        | Refusal::Setting(at)
+        | Refusal::Count(at) => at,
+        Refusal::ScanChip
+        | Refusal::ChipCount
+        | Refusal::PartRow
+        | Refusal::Rows
+        | Refusal::Room
+        | Refusal::Text
+        | Refusal::Record => 0,
+    }
+}
+
+// Refusal 1's test, given the highest sample: the lowest place of a sample above it.
+pub fn checked(samples: &[u8], most: u8) -> Result<(), Refusal>
+    ensures { tells result ≡ checked_from most 0 samples.now }
+{
+    match samples.iter().position(|s| *s > most) {
+        Some(place) => Err(Refusal::Sample(place as u64)),
+        None => Ok(()),
     }
 }
 
@@ -106,17 +117,17 @@ pub fn field(n: u16, at: u16, width: u16) -> u16
     ensures { result ≡ cut n at width }
 {
     if at >= 16 {
-        return 0;
+        0
+    } else if width >= 16 {
+        n >> at
+    } else {
+        (n >> at) & ((1 << width) - 1)
     }
-    if width >= 16 {
-        return n >> at;
-    }
-    (n >> at) & ((1 << width) - 1)
 }
 
 // The number of a bit: 1 or 0.
 pub fn bit_value(b: bool) -> u16
     ensures { result ≡ bit_value b }
 {
-    if b { 1 } else { 0 }
+    u16::from(b)
 }

@@ -1,6 +1,6 @@
 -- The first line of a text: 00 01 N, or refusal 10.
 --     first_cut                          a text with no line that was ended gives no chips
---     first_count, first_three           other than three bytes are refused, and three by a test of each
+--     first_at                           three bytes by a test of each; others are refused
 --     first_held                         what a frame has room for says what the line says
 --     frame_says                         the first line says what its frame holds
 --     bytes_none, bytes_some             bytes that give no number of chips, and those that give a number
@@ -21,17 +21,18 @@ use native.Mathlib.Omega.{arith}
 use borrow.Author.Tests.{le-leb, lt-leb}
 use lib.Dec.{T, eqb}
 use lib.ListN.{length, get_or, take, drop}
+use Rattle.std.specs.Prelude.{Some, None}
+use Rattle.std.proofs.lemmas.Option.{none-some, same_Some}
 use Rattle.base.specs.Lent.{laid, Counts}
 use Rattle.base.specs.Pick.{pick}
-use Rattle.base.specs.Refusals.{Told, done, refused}
+use Rattle.base.specs.Refusals.{Told, done, refused, handed}
 use Rattle.base.proofs.Lent.{laid_counts}
 use Rattle.base.proofs.Picks.{pick_yes, pick_no}
 use Rattle.base.proofs.Tests.{by_order}
 use Rattle.chain.specs.Chain.{most, chip_count}
-use Rattle.chain.specs.declared.HandedChain.{HandedChain}
-use Rattle.chain.specs.Entries.{handed_chain, start_chain, started_of}
+use Rattle.chain.specs.Entries.{start_chain, started_of}
 use Rattle.chain.proofs.Passed.{start_done}
-use Rattle.chain.proofs.Tested.{count_low, count_high}
+use Rattle.chain.proofs.Tested.{count_high}
 use Rattle.capture.specs.declared.Report.{Report}
 use Rattle.capture.specs.declared.Replayed.{Replayed}
 use Rattle.lines.specs.declared.Frame.{Frame}
@@ -40,17 +41,19 @@ use Rattle.lines.specs.Lines.{Line, ended, lines_of, bytes_in}
 use Rattle.lines.proofs.Frames.{frame_holds}
 use Rattle.lines.proofs.Lines.{lines_next, lines_last}
 use Rattle.capture.specs.Frames.{first_of}
-use Rattle.capture.specs.Parts.{first_in, chips_in, Ends}
+use Rattle.capture.specs.Parts.{first_in, chips_told, Ends}
 use Rattle.capture.specs.Reports.{refusal_line}
 use Rattle.capture.specs.Replay.{lines_out, after_first, all_out, output_of, lines_end, first_end, all_end, end_of, Replays}
 use Rattle.capture.proofs.EachLine.{held_same}
+use Rattle.base.specs.declared.Handed.{Handed}
+use Rattle.chain.specs.declared.Chain.{Chain}
 
 -- ---- where the first line ends
 
-pub first_cut : (text : List ℕ) → length text ≤ line_length text → chips_in (first_in (lines_of text)) ≡ 0
+pub first_cut : (text : List ℕ) → length text ≤ line_length text → chips_told (first_in (lines_of text)) ≡ None
 unfolding lines_of first_of
 first_cut [] h = refl
-first_cut (ch ∷ text) h = ap (λ ls. chips_in (first_in ls)) (lines_last (ch ∷ text) (omega arith) h)
+first_cut (ch ∷ text) h = ap (λ ls. chips_told (first_in ls)) (lines_last (ch ∷ text) (omega arith) h)
 
 first_next : (text : List ℕ) → line_length text < length text
     → first_in (lines_of text) ≡ first_of (bytes_in (ended (take (line_length text) text)))
@@ -58,29 +61,18 @@ first_next text h = ap first_in (lines_next text h)
 
 -- ---- its bytes
 
-pub first_count : (bytes : List ℕ) → (length bytes ≡ 3 → ⊥) → first_of bytes ≡ refused 10 0
+pub first_at : (bytes : List ℕ)
+    → first_of bytes ≡ pick (eqb (length bytes) 3 && eqb (get_or bytes 0 0) 0x00 && eqb (get_or bytes 1 0) 0x01 && chip_count (get_or bytes 2 0)) (done (get_or bytes 2 0)) (refused 10 0)
 unfolding first_of
-first_count [] ne = refl
-first_count (a ∷ []) ne = refl
-first_count (a ∷ b ∷ []) ne = refl
-first_count (a ∷ b ∷ n ∷ []) ne = absurd (ne refl)
-first_count (a ∷ b ∷ n ∷ c ∷ more) ne = refl
+first_at [] = refl
+first_at (a ∷ []) = refl
+first_at (a ∷ b ∷ []) = refl
+first_at (a ∷ b ∷ n ∷ []) = refl
+first_at (a ∷ b ∷ n ∷ c ∷ more) = grind arith
 
 pub first_held : (chars : List ℕ) → first_of (held_in chars) ≡ first_of (bytes_in (ended chars))
 first_held =
-    held_same first_of (λ bytes h. first_count bytes (λ e. absurd (omega arith)) ∙ sym (first_count [] (λ e. absurd (omega arith))))
-
--- the test of three bytes
-abbrev pub first_test : List ℕ → Bool
-first_test bytes = eqb (get_or bytes 0 0) 0x00 && eqb (get_or bytes 1 0) 0x01 && chip_count (get_or bytes 2 0)
-
-pub first_three : (bytes : List ℕ) → length bytes ≡ 3 → first_of bytes ≡ pick (first_test bytes) (done (get_or bytes 2 0)) (refused 10 0)
-unfolding first_of
-first_three [] h = absurd (omega arith)
-first_three (a ∷ []) h = absurd (omega arith)
-first_three (a ∷ b ∷ []) h = absurd (omega arith)
-first_three (a ∷ b ∷ n ∷ []) h = refl
-first_three (a ∷ b ∷ n ∷ c ∷ more) h = absurd (omega arith)
+    held_same first_of (λ bytes h. grind (arith, first_at))
 
 -- ---- what its frame holds
 
@@ -114,44 +106,37 @@ first_counted (a ∷ b ∷ n ∷ []) = all_three (eqb a 0x00) (eqb b 0x01) (chip
 first_counted (a ∷ b ∷ n ∷ c ∷ more) = refl
 
 -- bytes that give no number of chips are refused with 10; those that give a number give 1 to 8
-pub bytes_none : (bytes : List ℕ) → chips_in (first_of bytes) ≡ 0 → (place : ℕ) × (first_of bytes ≡ refused 10 place)
+pub bytes_none : (bytes : List ℕ) → None ≡ chips_told (first_of bytes) → (place : ℕ) × (first_of bytes ≡ refused 10 place)
 unfolding Counted
 bytes_none bytes e = go (first_of bytes) (first_counted bytes) e
   where
-    go : (t : Told ℕ) → Counted t → chips_in t ≡ 0 → (place : ℕ) × (t ≡ refused 10 place)
-    go (done n) c z = let h = count_low n c in absurd (omega arith)
+    go : (t : Told ℕ) → Counted t → None ≡ chips_told t → (place : ℕ) × (t ≡ refused 10 place)
+    go (done n) c z = absurd (none-some n z)
     go (refused number place) c z = (place, ap (λ m. refused m place) c)
 
-pub bytes_some : (bytes : List ℕ) → (chips_in (first_of bytes) ≡ 0 → ⊥)
-    → (first_of bytes ≡ done (chips_in (first_of bytes))) × T (chip_count (chips_in (first_of bytes)))
+pub bytes_some : {n : ℕ} (bytes : List ℕ) → Some n ≡ chips_told (first_of bytes) → (first_of bytes ≡ done n) × T (chip_count n)
 unfolding Counted
-bytes_some bytes ne = go (first_of bytes) (first_counted bytes) ne
+bytes_some {n} bytes e = go (first_of bytes) (first_counted bytes) e
   where
-    go : (t : Told ℕ) → Counted t → (chips_in t ≡ 0 → ⊥) → (t ≡ done (chips_in t)) × T (chip_count (chips_in t))
-    go (done n) c z = (refl, c)
-    go (refused number place) c z = absurd (z refl)
+    go : (t : Told ℕ) → Counted t → Some n ≡ chips_told t → (t ≡ done n) × T (chip_count n)
+    go (done m) c z = let same = same_Some n m z in (ap done (sym same), subst (λ k. T (chip_count k)) (sym same) c)
+    go (refused number place) c z = absurd (none-some n (sym z))
 
 -- so are those of a first line
-pub first_none : (l : Line) → chips_in (first_of (bytes_in l)) ≡ 0 → (place : ℕ) × (first_of (bytes_in l) ≡ refused 10 place)
+pub first_none : (l : Line) → None ≡ chips_told (first_of (bytes_in l)) → (place : ℕ) × (first_of (bytes_in l) ≡ refused 10 place)
 first_none l = bytes_none (bytes_in l)
 
-pub first_some : (l : Line) → (chips_in (first_of (bytes_in l)) ≡ 0 → ⊥)
-    → (first_of (bytes_in l) ≡ done (chips_in (first_of (bytes_in l)))) × T (chip_count (chips_in (first_of (bytes_in l))))
+pub first_some : {n : ℕ} (l : Line) → Some n ≡ chips_told (first_of (bytes_in l)) → (first_of (bytes_in l) ≡ done n) × T (chip_count n)
 first_some l = bytes_some (bytes_in l)
 
 -- where a number is given, the first line was ended
-pub first_ended : (text : List ℕ) → (chips_in (first_in (lines_of text)) ≡ 0 → ⊥) → line_length text < length text
-first_ended text ne = by_order (length text) (line_length text) (λ h. absurd (ne (first_cut text h))) (λ h. h)
+pub first_ended : {n : ℕ} (text : List ℕ) → Some n ≡ chips_told (first_in (lines_of text)) → line_length text < length text
+first_ended {n} text e = by_order (length text) (line_length text) (λ h. absurd (none-some n (sym (e ∙ first_cut text h)))) (λ h. h)
 
-none_after : (what : Report) (t : Told ℕ) (ls : List Line) → Counted t → chips_in t ≡ 0
-    → (after_first what t ls ≡ refusal_line 10 1) × (first_end t ls ≡ refused 10 1)
-unfolding Counted
-none_after what (done n) ls c e = let h = count_low n c in absurd (omega arith)
-none_after what (refused number place) ls c e = (ap (λ m. refusal_line m 1) c, ap (λ m. refused m 1) c)
-
-none_refused : (what : Report) (ls : List Line) → chips_in (first_in ls) ≡ 0 → (all_out what ls ≡ refusal_line 10 1) × (all_end ls ≡ refused 10 1)
+none_refused : (what : Report) (ls : List Line) → None ≡ chips_told (first_in ls) → (all_out what ls ≡ refusal_line 10 1) × (all_end ls ≡ refused 10 1)
 none_refused what [] e = (refl, refl)
-none_refused what (l ∷ ls) e = none_after what (first_of (bytes_in l)) ls (first_counted (bytes_in l)) e
+none_refused what (l ∷ ls) e =
+    let none = (first_none l e).1 in (ap (λ t. after_first what t ls) none, ap (λ t. first_end t ls) none)
 
 -- ---- the whole
 
@@ -170,7 +155,7 @@ short_out : (what : Report) (text : List ℕ) {piece : List ℕ} {end : Told (Un
 unfolding output_of end_of
 short_out what text h p e = let short = le-leb (length text) 65536 h in (pick_yes _ _ short ∙ p, pick_yes _ _ short ∙ e)
 
-pub none_out : (what : Report) (text : List ℕ) → length text ≤ 65536 → chips_in (first_in (lines_of text)) ≡ 0
+pub none_out : (what : Report) (text : List ℕ) → length text ≤ 65536 → None ≡ chips_told (first_in (lines_of text))
     → Comes what text (refusal_line 10 1) (refused 10 1)
 none_out what text h e = let none = none_refused what (lines_of text) e in short_out what text h none.0 none.1
 
@@ -200,40 +185,36 @@ replays_counts {what} {text} {out} {r} {out'} fits p =
 
 -- ---- a chain started, and the lines after the first
 
-module _ (text : List ℕ) (end n : ℕ) (h : HandedChain) (here : end ≡ 0 + line_length text) (chips : n ≡ chips_in (first_in (lines_of text)))
-    (some : n ≡ 0 → ⊥) (start : handed_chain h ≡ started_of n) where
-  ne : chips_in (first_in (lines_of text)) ≡ 0 → ⊥
-  ne z = some (chips ∙ z)
-
+module _ (text : List ℕ) (end n : ℕ) (h : Handed Chain (Unit {0})) (here : end ≡ 0 + line_length text) (chips : Some n ≡ chips_told (first_in (lines_of text)))
+    (start : handed h ≡ started_of n) where
   there : line_length text ≡ end
   there = omega arith
 
   pub begun_more : end < length text
-  begun_more = omega (arith, first_ended text ne)
+  begun_more = omega (arith, first_ended text chips)
 
   -- the first line and those after it, and what the first says
   pub begun_lines : lines_of text ≡ ended (take end text) ∷ lines_of (drop (end + 1) text)
   begun_lines =
-      lines_next text (first_ended text ne) ∙ ap (λ m. ended (take m text) ∷ lines_of (drop (m + 1) text)) there
+      lines_next text (first_ended text chips) ∙ ap (λ m. ended (take m text) ∷ lines_of (drop (m + 1) text)) there
+
+  said : (first_of (bytes_in (ended (take end text))) ≡ done n) × T (chip_count n)
+  said = first_some (ended (take end text)) (chips ∙ ap (λ ls. chips_told (first_in ls)) begun_lines)
 
   pub begun_first : first_of (bytes_in (ended (take end text))) ≡ done n
-  begun_first =
-      let same = ap (λ ls. chips_in (first_in ls)) begun_lines in
-      (first_some (ended (take end text)) (λ z. ne (same ∙ z))).0 ∙ ap done (sym same ∙ sym chips)
+  begun_first = said.0
 
   count : T (chip_count n)
-  count =
-      let same = ap (λ ls. chips_in (first_in ls)) begun_lines in
-      subst (λ m. T (chip_count m)) (sym same ∙ sym chips) (first_some (ended (take end text)) (λ z. ne (same ∙ z))).1
+  count = said.1
 
   pub begun_few : n ≤ most
   begun_few = count_high n count
 
-  pub begun_chain : h.chain ≡ start_chain
+  pub begun_chain : h.value ≡ start_chain
   begun_chain = ap (λ o. o.state) (start ∙ start_done n count)
 
   pub begun_out : (what : Report) → length text ≤ 65536
-      → Comes what text (lines_out what n 2 h.chain (lines_of (drop (end + 1) text))) (lines_end n 2 (lines_of (drop (end + 1) text)))
+      → Comes what text (lines_out what n 2 h.value (lines_of (drop (end + 1) text))) (lines_end n 2 (lines_of (drop (end + 1) text)))
   begun_out what fits =
       short_out what text fits
       (ap (all_out what) begun_lines ∙ ap (λ t. after_first what t (lines_of (drop (end + 1) text))) begun_first ∙ ap (λ c. lines_out what n 2 c (lines_of (drop (end + 1) text))) (sym begun_chain))

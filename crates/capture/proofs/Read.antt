@@ -7,7 +7,7 @@
 --     held_some, held_samples         the bytes at an array's front: samples, and that there are two bytes at least
 --     held_scan, held_below           a scan, by places of the array, and the chip is below N
 -- Assumes nothing.
-use mathlib.Core.Path.{◌≡◌, refl, ap, sym, subst, ◌∙◌}
+use mathlib.Core.Path.{◌≡◌, refl, ap, ap₂, sym, subst, ◌∙◌}
 use mathlib.Core.Bool.{◌&&◌}
 use mathlib.Core.List.{List, [], ◌∷◌}
 use Prim.Native.Nat.{ℕ, zero, suc, ◌-◌, ◌≤◌, ◌<◌}
@@ -15,7 +15,8 @@ use native.Mathlib.Omega.{arith}
 use borrow.Author.Tests.{leb-true, ltb-true, eqb-true}
 use lib.Dec.{T, eqb, leb, ltb}
 use lib.ListN.{length, get_or, take, drop}
-use lib.Seq.{length-take-le, take-nil}
+use lib.Seq.{length-take-le, take-nil, get_or-take}
+use Rattle.std.proofs.lemmas.List.{drop-take}
 use Rattle.base.specs.Refusals.{Told, done, refused}
 use Rattle.base.proofs.Picks.{pick_cases}
 use Rattle.base.proofs.Tests.{is_true, and_left, and_right}
@@ -110,14 +111,6 @@ front_so xs zero h = refl
 front_so [] (suc count) h = absurd (omega arith)
 front_so (x ∷ xs) (suc count) h = ap (λ r. x ∷ r) (front_so xs count (omega arith) ∙ sym (next_tail x xs 0 count))
 
--- the eight after the second
-abbrev pub eight_of : List ℕ → List ℕ
-eight_of fb = get_or fb 2 0 ∷ get_or fb 3 0 ∷ get_or fb 4 0 ∷ get_or fb 5 0 ∷ get_or fb 6 0 ∷ get_or fb 7 0 ∷ get_or fb 8 0 ∷ get_or fb 9 0 ∷ []
-
-front_ten : (fb : List ℕ) → 10 ≤ length fb → take 10 fb ≡ get_or fb 0 0 ∷ get_or fb 1 0 ∷ eight_of fb
-unfolding next_of
-front_ten fb h = front_so fb 10 h
-
 module _ (n : ℕ) (fb : List ℕ) (count : ℕ) (r : Reading) (high : count ≤ length fb) (reads : read_as r (take count fb) ≡ form_of n (take count fb)) where
   front_length : length (take count fb) ≡ count
   front_length = length-take-le count fb high
@@ -128,13 +121,10 @@ module _ (n : ℕ) (fb : List ℕ) (count : ℕ) (r : Reading) (high : count ≤
   pub held_samples : r ≡ Readings.Samples → form_of n (take count fb) ≡ samples (take (count - 1) (drop 1 fb))
   held_samples e = let some = held_some e in samples_read n (take count fb) r reads e ∙ ap samples (front_rest fb count (omega arith))
 
-  held_ten : r ≡ Readings.Scan → take count fb ≡ get_or fb 0 0 ∷ get_or fb 1 0 ∷ eight_of fb
-  held_ten e =
+  pub held_scan : r ≡ Readings.Scan → form_of n (take count fb) ≡ scan (get_or fb 1 0) (take 8 (drop 2 fb))
+  held_scan e =
       let ten : count ≡ 10 = omega (arith, front_length, scan_bounds n (take count fb) r reads e) in
-      ap (λ m. take m fb) ten ∙ front_ten fb (omega arith)
-
-  pub held_scan : r ≡ Readings.Scan → form_of n (take count fb) ≡ scan (get_or fb 1 0) (eight_of fb)
-  held_scan e = scan_read n (take count fb) r reads e ∙ ap (λ bytes. scan (get_or bytes 1 0) (drop 2 bytes)) (held_ten e)
+      scan_read n (take count fb) r reads e ∙ rw ten (ap₂ scan (get_or-take 10 fb 1 0 (omega arith)) (drop-take 2 8 fb))
 
   pub held_below : r ≡ Readings.Scan → get_or fb 1 0 < n
-  held_below e = subst (λ bytes. get_or bytes 1 0 < n) (held_ten e) (scan_bounds n (take count fb) r reads e).1
+  held_below e = grind (arith, get_or-take, front_length, scan_bounds n (take count fb) r reads e)

@@ -1,7 +1,6 @@
 -- Samples played from one LOAD rise to the next. `Going` is the loop's invariant: what is left, played and written from here, is the
 -- whole played and written.
 --     stretch_writes           a stretch writes what the chain after it gives, if LOAD rose, and then comes what the rest writes
---     going_start              the loop's start
 --     turn_room, turn_again    a turn: what it writes has room, and the invariant holds again
 --     going_over               no sample is left
 -- Assumes nothing.
@@ -11,7 +10,7 @@ use mathlib.Core.List.{List, [], ◌++◌}
 use Prim.Native.Nat.{ℕ, ◌+◌, ◌≤◌, ◌<◌}
 use lib.ListN.{length, get_or, drop, drop_of_length-le}
 use Rattle.base.specs.Pick.{pick}
-use Rattle.base.proofs.Lent.{Fills, fills_start, fills_more, fills_room, fills_over}
+use Rattle.base.proofs.Lent.{Fills, fills_more, fills_room, fills_over}
 use Rattle.base.proofs.Picks.{pick_yes, pick_no}
 use Rattle.base.proofs.Lists.{rest_is}
 use Rattle.chip.specs.Edges.{load_rises}
@@ -53,10 +52,6 @@ pub record Going (what : Report) (n : ℕ) (ss : List ℕ) (at₀ : ℕ) (out₀
   pub room : at₀ + length (rises_in what n ss ch₀) ≤ length out₀
   pub plays : played n (drop i ss) next ≡ played n ss ch₀
   pub fills : Fills at₀ (rises_in what n ss ch₀) out₀ end (rises_in what n (drop i ss) next) out
-
-pub going_start : (what : Report) (n : ℕ) (ss : List ℕ) (at : ℕ) (out : List ℕ) (ch : Chain) → at + length (rises_in what n ss ch) ≤ length out
-    → Going what n ss at out ch out ch at 0
-going_start what n ss at out ch room = record { room = room; plays = refl; fills = fills_start at (rises_in what n ss ch) out }
 
 module _ {what : Report} {n : ℕ} {ss : List ℕ} {at₀ : ℕ} {out₀ : List ℕ} {ch₀ : Chain} {out : List ℕ} {next : Chain} {end i : ℕ}
     (g : Going what n ss at₀ out₀ ch₀ out next end i) where

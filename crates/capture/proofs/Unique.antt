@@ -6,7 +6,7 @@ use mathlib.Core.List.{List}
 use Prim.Native.Nat.{ℕ}
 use Rattle.base.specs.Refusals.{Outcome}
 use Rattle.base.specs.Unique.{AllowsOne}
-use Rattle.base.proofs.Unique.{same_answer, same_telling, same_verdict}
+use Rattle.base.proofs.Unique.{same_answer, same_telling, same_result}
 use Rattle.chain.specs.declared.Chain.{Chain}
 use Rattle.capture.specs.declared.Replayed.{Replayed}
 use Rattle.capture.specs.declared.Report.{Report}
@@ -27,7 +27,7 @@ use Rattle.capture.proofs.takes
 same_replayed : (what : Report) {text out out' out'' : List ℕ} {r s : Replayed} → Replays what text out r out' → Replays what text out s out'' → r ≡ s
 same_replayed what {r = r} {s = s} p q =
     let count = same_answer p.count q.count in
-    let answer = same_verdict {v = r.answer} {w = s.answer} (same_answer p.answer q.answer) in
+    let answer = same_result {r = r.answer} {s = s.answer} (same_answer p.answer q.answer) in
     λ i. record { bytes = count i; answer = answer i }
 
 -- ---- the entries

@@ -17,7 +17,6 @@ use native.Mathlib.Omega.{arith}
 use lib.ListN.{length, take, drop, length-append, length-drop, drop_of_length-le}
 use Rattle.base.specs.Lent.{placed}
 use Rattle.base.specs.Refusals.{Told, done, refused, Outcome}
-use Rattle.base.specs.declared.Verdict.TheVariants.{Done}
 use Rattle.base.proofs.Lent.{Fills, fills_start, fills_more, fills_over, placed_none}
 use Rattle.lines.specs.declared.Frame.{Frame}
 use Rattle.lines.specs.Answers.{line_length, held_in, frame_for, held_by, Puts}
@@ -29,6 +28,7 @@ use Rattle.capture.specs.Reports.{refusal_line}
 use Rattle.capture.specs.Replay.{and_then}
 use Rattle.capture.proofs.Reported.{refusal_length}
 use Rattle.capture.proofs.EachLine.{after_line, frame_count, frame_same}
+use Rattle.std.specs.declared.result.Result.TheVariants.{Ok}
 
 -- ---- lines, by what takes one
 
@@ -115,7 +115,7 @@ module _ {S : Type 0} {takes : S → List ℕ → Outcome S (List ℕ)} (reader 
       let f = subst (λ rest. Fills 0 whole out₀ at rest out) e w.fills in
       omega (arith, f.count, f.size, w.room)
 
-  pub walks_over : length text ≤ place → Ends whole told 0 out₀ (record { bytes = at; answer = Done }) out
+  pub walks_over : length text ≤ place → Ends whole told 0 out₀ (record { bytes = at; answer = (Ok tt) }) out
   unfolding lines_of walk_out walk_end
   walks_over h =
       let none = drop_of_length-le text h in

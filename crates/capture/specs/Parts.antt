@@ -1,8 +1,8 @@
 -- What the walk's own functions promise to one another and those of `takes` to the other crates, and what `chips_in` and `chips_of`
 -- answer. No entry's promise cites these.
 -- Assumes nothing.
-use Rattle.std.specs.Prelude.{◌≡◌, ℕ, Bool, true, false, List, [], ◌∷◌}
-use Rattle.base.specs.Refusals.{Told, done, refused, Outcome, verdict_tells}
+use Rattle.std.specs.Prelude.{◌≡◌, ℕ, Bool, true, false, List, [], ◌∷◌, Option, Some, None}
+use Rattle.base.specs.Refusals.{Told, done, refused, Outcome, tells}
 use Rattle.chain.specs.declared.Chain.{Chain}
 use Rattle.lines.specs.Answers.{Puts}
 use Rattle.lines.specs.Lines.{Line, bytes_in}
@@ -15,7 +15,12 @@ abbrev pub first_in : List Line → Told ℕ
 first_in [] = refused 10 0
 first_in (l ∷ ls) = first_of (bytes_in l)
 
--- the number of chips that it gives; 0 where it is refused
+-- the number of chips that it tells; none where it is refused
+abbrev pub chips_told : Told ℕ → Option ℕ
+chips_told (done n) = Some n
+chips_told (refused number place) = None
+
+-- the number of chips of a report; 0 where the first line is refused
 abbrev pub chips_in : Told ℕ → ℕ
 chips_in (done n) = n
 chips_in (refused number place) = 0
@@ -39,4 +44,4 @@ pub record Takes (o : Outcome Chain (List ℕ)) (at : ℕ) (out : List ℕ) (r :
 -- a last piece was put at a place, the answer counts the bytes up to its end, and tells how the text ended
 pub record Ends (piece : List ℕ) (end : Told (Unit {0})) (at : ℕ) (out : List ℕ) (r : Replayed) (out' : List ℕ) : Type 0 where
   pub puts : Puts piece at out r.bytes out'
-  pub answer : verdict_tells r.answer ≡ end
+  pub answer : tells r.answer ≡ end

@@ -12,7 +12,7 @@ pub mod walk;
 ghost use Rattle.base.specs.Lent.{Counts};
 ghost use Rattle.capture.specs.Replay.{Replays};
 
-use base::Verdict;
+use base::Refusal;
 
 // What is written at each LOAD rise and at each scan.
 #[derive(Clone, Copy)]
@@ -24,10 +24,11 @@ pub enum Report {
 }
 
 // How a text was replayed: how many bytes stand at the array's front, and whether it was taken to its end or what refused it.
+// A refused text has written too, so the count stands beside the answer.
 #[derive(Clone, Copy)]
 pub struct Replayed {
     pub bytes: usize,
-    pub answer: Verdict,
+    pub answer: Result<(), Refusal>,
 }
 
 // The longest text.

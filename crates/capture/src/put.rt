@@ -10,15 +10,7 @@ use base::Refusal;
 pub fn refusal(e: Refusal, out: &mut [u8], at: usize) -> usize
     ensures { Puts (fitting (refusal_line (number_of e) (place_of e)) at out.old) at out.old result out.new }
 {
-    let number = base::number(e);
-    let place = base::place(e);
-    let bytes = [
-        0x1F,
-        (number % 256) as u8,
-        (place / 16777216 % 256) as u8,
-        (place / 65536 % 256) as u8,
-        (place / 256 % 256) as u8,
-        (place % 256) as u8,
-    ];
+    let mut bytes = [0x1F, base::number(e) as u8, 0, 0, 0, 0];
+    bytes[2..].copy_from_slice(&base::place(e).to_be_bytes()[4..]);
     lines::put_line(&bytes, out, at)
 }

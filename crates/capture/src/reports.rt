@@ -1,5 +1,5 @@
 // What is written at a LOAD rise and at a scan.
-ghost use Rattle.std.specs.Prelude.{◌≡◌, ◌+◌, ◌≤◌, ◌<◌, [], ◌∷◌, length};
+ghost use Rattle.std.specs.Prelude.{◌+◌, ◌≤◌, [], ◌∷◌, length};
 ghost use Rattle.chain.specs.Chain.{most};
 ghost use Rattle.chip.specs.Scans.{recording_of, leaves_of};
 ghost use Rattle.lines.specs.Answers as P;
@@ -16,10 +16,8 @@ fn screen_line(k: u8, chip: Chip, out: &mut [u8], at: usize) -> usize
     requires { at + 21 ≤ length out.old }
     ensures { P.Puts (R.screen_line k chip) at out.old result out.new }
 {
-    let lit = chip::segments::lit(chip);
-    let bytes = [
-        0x30, k, lit[0], lit[1], lit[2], lit[3], lit[4], lit[5], lit[6], lit[7],
-    ];
+    let mut bytes = [0x30, k, 0, 0, 0, 0, 0, 0, 0, 0];
+    bytes[2..].copy_from_slice(&chip::segments::lit(chip));
     lines::put_line(&bytes, out, at)
 }
 
@@ -30,14 +28,8 @@ fn rise_line(what: Report, k: u8, chip: Chip, out: &mut [u8], at: usize) -> usiz
 {
     match what {
         Report::Words => {
-            let w = chip.line.register;
-            let bytes = [
-                0x10,
-                k,
-                base::field(w, 8, 8) as u8,
-                base::field(w, 0, 8) as u8,
-            ];
-            lines::put_line(&bytes, out, at)
+            let [high, low] = chip.line.register.to_be_bytes();
+            lines::put_line(&[0x10, k, high, low], out, at)
         }
         Report::Screen => screen_line(k, chip, out, at),
     }
@@ -49,29 +41,11 @@ pub(crate) fn rise(what: Report, n: usize, chain: Chain, out: &mut [u8], at: usi
     requires chain_in_bounds { at + length (R.at_rise what n chain) ≤ length out.old }
     ensures { P.Puts (R.at_rise what n chain) at out.old result out.new }
 {
-    let chips = chain.chips;
     let mut end = at;
-    let mut k = 0;
-    while k < n {
-        let c = chips[k];
-        end = rise_line(what, k as u8, c, out, end);
-        k += 1;
+    for (k, chip) in chain.chips[..n].iter().enumerate() {
+        end = rise_line(what, k as u8, *chip, out, end);
     }
     end
-}
-
-// Whether the same segments are lit.
-fn same(a: [u8; 8], b: [u8; 8]) -> bool
-    ensures { result ≡ R.same_bytes a b }
-{
-    let mut i = 0;
-    while i < 8 {
-        if a[i] != b[i] {
-            return false;
-        }
-        i += 1;
-    }
-    true
 }
 
 // A code of a chip: the line's kind, chip, code.
@@ -79,8 +53,7 @@ fn code_line(kind: u8, k: u8, code: u8, out: &mut [u8], at: usize) -> usize
     requires { at + length (L.line_for (kind ∷ k ∷ code ∷ [])) ≤ length out.old }
     ensures { P.Puts (L.line_for (kind ∷ k ∷ code ∷ [])) at out.old result out.new }
 {
-    let bytes = [kind, k, code];
-    lines::put_line(&bytes, out, at)
+    lines::put_line(&[kind, k, code], out, at)
 }
 
 // A recorded key: 11, chip, code, or 12 where it overwrote an unread one; a release writes nothing.
@@ -89,10 +62,9 @@ fn key_line(k: u8, what: Recorded, out: &mut [u8], at: usize) -> usize
     ensures { P.Puts (R.key_line k (recording_of what)) at out.old result out.new }
 {
     match what {
-        Recorded::Nothing => at,
         Recorded::Key(code) => code_line(0x11, k, code, out, at),
         Recorded::OverUnread(code) => code_line(0x12, k, code, out, at),
-        Recorded::Released => at,
+        Recorded::Nothing | Recorded::Released => at,
     }
 }
 
@@ -108,15 +80,13 @@ pub(crate) fn scan(
     requires { at + length (R.scan_line what k before (leaves_of taken)) ≤ length out.old }
     ensures { P.Puts (R.scan_line what k before (leaves_of taken)) at out.old result out.new }
 {
-    let after = taken.chip;
-    let key = taken.recorded;
     match what {
-        Report::Words => key_line(k, key, out, at),
+        Report::Words => key_line(k, taken.recorded, out, at),
         Report::Screen => {
-            if same(chip::segments::lit(before), chip::segments::lit(after)) {
+            if chip::segments::lit(before) == chip::segments::lit(taken.chip) {
                 return at;
             }
-            screen_line(k, after, out, at)
+            screen_line(k, taken.chip, out, at)
         }
     }
 }

@@ -33,46 +33,34 @@ fn untaken(chain: Chain, at: usize) -> Took
 fn has_room(long: usize, at: usize, much: usize) -> bool
     ensures { result ≡ leb (at + much) long }
 {
-    if at > long {
-        return false;
-    }
-    long - at >= much
+    at <= long && long - at >= much
 }
 
 // The bytes of a line after the first. Where N is above the most chips, the frame counts more bytes than it has, or less than a line's
 // room is left, nothing is taken.
+#[tactic(auto, using(crate::proofs::Taken::line_fits))]
 pub fn line(what: Report, n: usize, chain: Chain, frame: Frame, out: &mut [u8], at: usize) -> Took
     ensures { Takes (T.line_where what n chain frame at out.old) at out.old result out.new }
 {
-    if n > chain::MOST {
-        return untaken(chain, at);
-    }
-    if frame.count > 33 {
-        return untaken(chain, at);
-    }
-    if !has_room(out.len(), at, LINE_ROOM) {
+    if n > chain::MOST || frame.count > 33 || !has_room(out.len(), at, LINE_ROOM) {
         return untaken(chain, at);
     }
     walk::line(what, n, chain, frame, out, at)
 }
 
 // Samples, tested or not. Where N is above the most chips, or there isn't room for each of them and one more, nothing is taken.
+#[tactic(auto, using(crate::proofs::Taken::samples_fit))]
 pub fn samples(what: Report, n: usize, chain: Chain, ss: &[u8], out: &mut [u8], at: usize) -> Took
     ensures { Takes (T.samples_where what n chain ss.now at out.old) at out.old result out.new }
 {
-    if n > chain::MOST {
-        return untaken(chain, at);
-    }
-    if at > out.len() {
-        return untaken(chain, at);
-    }
-    if (out.len() - at) / SAMPLE_ROOM <= ss.len() {
+    if n > chain::MOST || at > out.len() || (out.len() - at) / SAMPLE_ROOM <= ss.len() {
         return untaken(chain, at);
     }
     walk::samples(what, n, chain, ss, out, at)
 }
 
 // A scan of a chip. Where there isn't room for a line, nothing is taken.
+#[tactic(auto, using(crate::proofs::Taken::scan_fits))]
 pub fn scan(
     what: Report,
     n: usize,

@@ -11,11 +11,12 @@ ghost use Rattle.capture.specs.Reports.{refusal_line};
 
 use crate::frames::Form;
 use crate::{Replayed, Report, frames, put, reports};
-use base::{Refusal, Verdict};
+use base::Refusal;
 use chain::Chain;
 use lines::Frame;
 
 // A line: the chain after it, whether it was taken, and the place past what it wrote.
+// Chain and place are told of a line that isn't taken too (specs/Parts `Takes`), so the flag stands beside them.
 #[derive(Clone, Copy)]
 pub struct Took {
     pub chain: Chain,
@@ -39,10 +40,10 @@ pub(crate) fn samples(
     let mut next = chain;
     let mut end = at;
     let mut i = 0;
+    // each turn goes as far as the next rise, so no iterator counts it
     while i < ss.len() {
         let part = chain::play::to_next_rise(n, next, ss, i);
-        let after = part.chain;
-        next = after;
+        next = part.chain;
         i = part.stop;
         if part.rose {
             end = reports::rise(what, n, next, out, end);
@@ -69,13 +70,10 @@ pub(crate) fn scan_line(
     ensures { P.Takes (R.taken what n chain (F.scan k bytes)) at out.old result out.new }
 {
     let scanned = chain::one::scan_chip(k as usize, bytes, chain);
-    let after = scanned.chain;
-    let before = scanned.before;
-    let taken = scanned.taken;
     Took {
-        chain: after,
+        chain: scanned.chain,
         taken: true,
-        at: reports::scan(what, k, before, taken, out, at),
+        at: reports::scan(what, k, scanned.before, scanned.taken, out, at),
     }
 }
 
@@ -93,15 +91,12 @@ pub(crate) fn line(
     requires frame_in_bounds { at + length (P.out_of (R.taken what n chain (F.form_of n (held_by frame))).told) ≤ length out.old }
     ensures { P.Takes (R.taken what n chain (F.form_of n (held_by frame))) at out.old result out.new }
 {
-    let count = frame.count;
-    let bytes = frame.bytes;
-    let form = frames::form_of(n, &bytes[..count]);
-    match form {
+    let Frame { bytes, count } = frame;
+    match frames::form_of(n, &bytes[..count]) {
         Form::Samples => samples(what, n, chain, &bytes[1..count], out, at),
         Form::Scan => {
-            let eight = [
-                bytes[2], bytes[3], bytes[4], bytes[5], bytes[6], bytes[7], bytes[8], bytes[9],
-            ];
+            let mut eight = [0; 8];
+            eight.copy_from_slice(&bytes[2..10]);
             scan_line(what, n, chain, bytes[1], eight, out, at)
         }
         Form::Other => Took {
@@ -119,7 +114,7 @@ fn wrong_line(number: usize, out: &mut [u8], at: usize) -> Replayed
 {
     Replayed {
         bytes: put::refusal(Refusal::Line(number as u64), out, at),
-        answer: Verdict::Refused(Refusal::Line(number as u64)),
+        answer: Err(Refusal::Line(number as u64)),
     }
 }
 
@@ -134,6 +129,7 @@ fn lines(what: Report, n: usize, chain: Chain, text: &[u8], from: usize, out: &m
     let mut number = 2;
     let mut at = 0;
     let mut place = from;
+    // each turn goes past a line's end, so no iterator counts it
     while place < text.len() {
         let end = lines::line_end(text, place);
         if end >= text.len() {
@@ -144,15 +140,14 @@ fn lines(what: Report, n: usize, chain: Chain, text: &[u8], from: usize, out: &m
         if !took.taken {
             return wrong_line(number, out, at);
         }
-        let after = took.chain;
-        next = after;
+        next = took.chain;
         at = took.at;
         place = end + 1;
         number += 1;
     }
     Replayed {
         bytes: at,
-        answer: Verdict::Done,
+        answer: Ok(()),
     }
 }
 
@@ -164,15 +159,13 @@ pub(crate) fn whole(what: Report, text: &[u8], out: &mut [u8]) -> Replayed
     if text.len() > crate::LONGEST {
         return Replayed {
             bytes: put::refusal(Refusal::Text, out, 0),
-            answer: Verdict::Refused(Refusal::Text),
+            answer: Err(Refusal::Text),
         };
     }
-    let n = frames::chips_of(text);
-    if n == 0 {
+    let Some(n) = frames::chips_of(text) else {
         return wrong_line(1, out, 0);
-    }
+    };
     let end = lines::line_end(text, 0);
     let begun = chain::start(n);
-    let chain = begun.chain;
-    lines(what, n, chain, text, end + 1, out)
+    lines(what, n, begun.value, text, end + 1, out)
 }

@@ -1,6 +1,6 @@
 // The worked examples of one chip: the sheet's 5.3 to 5.5 and 6.3 to 6.16. Digits are shown as the sheet shows them, DIG7
 // leftmost; a digit of 1 to 8 is named by its character.
-use chip::{Chip, Recorded, ScanAnswer};
+use chip::{Chip, Recorded};
 use std::io;
 use word::{Command, Display, System};
 
@@ -22,7 +22,7 @@ pub fn run(rt: &impl Print) -> io::Result<()> {
 // A chip after a command applied directly.
 pub fn told(c: Chip, command: Command) -> Chip {
     let r = chip::apply(c, command);
-    r.chip
+    r.value
 }
 
 fn load(c: Chip, digit: u8, byte: u8) -> Chip {
@@ -73,7 +73,7 @@ fn moves(rt: &impl Print, section: &str, command: Command) -> io::Result<()> {
 // What is seen of all eight digits, DIG7 first.
 fn show(rt: &impl Print, c: Chip) -> io::Result<()> {
     let lit = chip::segments_lit(c);
-    let s = lit.segments;
+    let s = lit.value;
     rt.print("[")?;
     glyph(rt, s[7])?;
     glyph(rt, s[6])?;
@@ -219,15 +219,15 @@ fn custom(rt: &impl Print) -> io::Result<()> {
 fn scan(rt: &impl Print, c: Chip, dig3: u8, dig4: u8) -> io::Result<Chip> {
     let r = chip::scan(c, [0, 0, 0, dig3, dig4, 0, 0, 0]);
     match r.answer {
-        ScanAnswer::Took(what) => match what {
+        Ok(what) => match what {
             Recorded::Nothing => rt.print("- ")?,
             Recorded::Key(code) => print!(rt; "{code:02X} ")?,
             Recorded::OverUnread(code) => print!(rt; "over {code:02X} ")?,
             Recorded::Released => rt.print("free ")?,
         },
-        ScanAnswer::Refused(_) => rt.print("refused ")?,
+        Err(_) => rt.print("refused ")?,
     }
-    Ok(r.chip)
+    Ok(r.value)
 }
 
 // A reset chip with the keypad on.

@@ -2,8 +2,6 @@
 // are shown DIG7 leftmost.
 use crate::chips::glyph;
 use ch450::Panel;
-use ch450::play::{Reading, SampleAnswer};
-use ch450::writer::Written;
 use std::io;
 
 pub fn run(rt: &impl Print) -> io::Result<()> {
@@ -25,7 +23,7 @@ fn digits() -> Panel {
 // What is seen of all six digits, DIG7 first.
 fn show(rt: &impl Print, p: Panel) -> io::Result<()> {
     let lit = ch450::segments_lit(p);
-    let s = lit.segments;
+    let s = lit.value;
     rt.print("[")?;
     glyph(rt, s[5])?;
     glyph(rt, s[4])?;
@@ -41,11 +39,11 @@ fn told(p: Panel, word: u16) -> Panel {
     let words = [word];
     let mut out = [0u8; 40];
     match ch450::writer::write(&words, &mut out) {
-        Written::Samples(_) => {
+        Ok(_) => {
             let h = ch450::play::play(p, 0, &out);
-            h.panel
+            h.value
         }
-        Written::Refused(_) => p,
+        Err(_) => p,
     }
 }
 
@@ -67,7 +65,7 @@ fn four(rt: &impl Print, a: u8, b: u8, c: u8, d: u8) -> io::Result<()> {
 fn figure(rt: &impl Print) -> io::Result<()> {
     let words = [0x4801u16];
     let mut out = [0u8; 40];
-    ch450::writer::write(&words, &mut out);
+    let _ = ch450::writer::write(&words, &mut out);
     rt.print("CH450 5.5 48 01: samples ")?;
     four(rt, out[0], out[1], out[2], out[3])?;
     four(rt, out[4], out[5], out[6], out[7])?;
@@ -114,17 +112,17 @@ fn read(rt: &impl Print, p: Panel, key: u8) -> io::Result<Panel> {
         b"\x01\x00\x01\x02\x03\x00\x01\x00\x01\x02\x03\x02\x03\x02\x03\x02\x03\x02\x03",
     );
     let second = ch450::play::play(
-        first.panel,
+        first.value,
         key,
         b"\x02\x03\x02\x03\x02\x03\x02\x03\x02\x03\x02\x03\x02\x03\x02\x03\x02\x03\x00\x01",
     );
-    let last = ch450::play::sample(second.panel, key, 3);
+    let last = ch450::play::sample(second.value, key, 3);
     match last.answer {
-        SampleAnswer::Took(what) => match what {
-            Reading::Code(code) => print!(rt; "{code:02X}")?,
-            Reading::Nothing => rt.print("-")?,
+        Ok(what) => match what {
+            Some(code) => print!(rt; "{code:02X}")?,
+            None => rt.print("-")?,
         },
-        SampleAnswer::Refused(_) => rt.print("refused")?,
+        Err(_) => rt.print("refused")?,
     }
-    Ok(last.panel)
+    Ok(last.value)
 }

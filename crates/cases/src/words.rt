@@ -1,7 +1,8 @@
 // The worked examples of 12-bit words in the sheet's chapter 6 and in the notation of 5.5: each word's section, the word, what
 // `decode` says that it means, and the word that `encode` makes of that.
+use base::Refusal;
 use std::io;
-use word::{Command, Decoded, Encoded};
+use word::Command;
 
 // The sheet's words in its order, by its sections.
 pub fn run(rt: &impl Print) -> io::Result<()> {
@@ -49,20 +50,20 @@ fn sections_to_6_16(rt: &impl Print) -> io::Result<()> {
 fn show(rt: &impl Print, section: &str, w: u16) -> io::Result<()> {
     print!(rt; "{section} {w:012b}: ")?;
     match word::decode(w) {
-        Decoded::Means(c) => {
+        Ok(c) => {
             put_command(rt, c)?;
             rt.print(": ")?;
             put_encoded(rt, word::encode(c))?;
         }
-        Decoded::Refused(_) => rt.print("refused")?,
+        Err(_) => rt.print("refused")?,
     }
     rt.println("")
 }
 
-fn put_encoded(rt: &impl Print, e: Encoded) -> io::Result<()> {
+fn put_encoded(rt: &impl Print, e: Result<u16, Refusal>) -> io::Result<()> {
     match e {
-        Encoded::Word(w) => print!(rt; "{w:012b}"),
-        Encoded::Refused(_) => rt.print("refused"),
+        Ok(w) => print!(rt; "{w:012b}"),
+        Err(_) => rt.print("refused"),
     }
 }
 

@@ -23,13 +23,14 @@ use Rattle.ch450.specs.Edges.{idle}
 use Rattle.ch450.specs.Panel.{Body, valid, valid_wires, valid_transfer, dark, lit_of, with_wires}
 use Rattle.ch450.specs.Commands.{encoded_of, meaning_of, applied, told_at}
 use Rattle.ch450.specs.Samples.{stepped_panel, played}
-use Rattle.ch450.specs.Entries.{the_code, answer_to, tested_of, sampled_of}
+use Rattle.ch450.specs.Entries.{answer_to, tested_of, sampled_of}
 use Rattle.ch450.specs.Written.{byte_bits, clocking, command_samples, words_from, list_test, answer_by, answer_of}
 use Rattle.ch450.specs.Demand.{applied_all, played_back, WrittenPlayed}
 use Rattle.ch450.specs.Cases.{Shows, LetterE, reading, Reads, ch450_cases}
 use Rattle.ch450.proofs.Clocking.{holding, entered}
 use Rattle.ch450.proofs.Demanded.{played_all, write_then_play}
 use Rattle.ch450.proofs.OneCommand.{bits_of, front, front_length, front_played, command_is, command_below, command_reads, stop_means}
+use Rattle.std.specs.declared.option.Option.TheVariants.{Some}
 
 -- ---- written and played
 
@@ -64,7 +65,7 @@ module _ (code : ℕ) (few : code ≤ 127) (p : Panel) (v : T (valid p)) (e : p.
   unfolding valid valid_wires valid_transfer entered byte_bits
   before_valid = is_true (leb p.settings.intens 3) (and_right (valid_wires p.wires) (leb p.settings.intens 3) v)
 
-  answered : (sampled_of before code 3).told ≡ done (the_code code)
+  answered : (sampled_of before code 3).told ≡ done (Some code)
   unfolding sampled_of tested_of meaning_of
   answered =
       ap (λ t. (once_tested t before (record { state = stepped_panel 3 before; told = done (answer_to code (told_at 3 before.wires)) })).told)

@@ -27,6 +27,7 @@ use Rattle.ch450.specs.Edges.{idle, at_rest}
 use Rattle.ch450.specs.Panel.{valid, body_of, with_wires}
 use Rattle.ch450.specs.Commands.{word_means, obeyed}
 use Rattle.ch450.specs.Samples.{played, reads_in}
+use Rattle.base.proofs.Samples.{below_checked}
 use Rattle.ch450.specs.Entries.{tested_of, checked_from, played_of}
 use Rattle.ch450.specs.Written.{command_samples, written, writable, words_from, list_test, answer_by, answer_of, bytes_by}
 use Rattle.ch450.specs.Demand.{applied_all, EachOnce, Demand3, played_back, WriteThenPlay}
@@ -178,19 +179,13 @@ unfolding told_number
 answered (refused number place) need have count e = absurd (subst IsDone (sym e) tt)
 answered (done u) need have count e = (refl, ap told_number (pick_done (leb need have) (done need) 8 0 count e).1)
 
--- no refusal 1: no sample is above 3
-all_checked : (place : ℕ) (ss : List ℕ) → AllBelow 4 ss → checked_from place ss ≡ done tt
-unfolding checked_from
-all_checked place [] a = refl
-all_checked place (s ∷ ss) a = pick_yes _ _ (le-leb s 3 (le_of_suc-le-suc a.0)) ∙ all_checked (suc place) ss a.1
-
 -- such samples are played, where nothing else is refused
 pub played_all : (p : Panel) (key : ℕ) (ss : List ℕ) → T (valid p) → key ≤ 127 → AllBelow 4 ss
     → played_of p key ss ≡ record { state = played ss p; told = done (reads_in ss p) }
-unfolding played_of tested_of
+unfolding played_of tested_of checked_from
 played_all p key ss v h a =
     ap (λ t. once_tested t p (once_tested (checked_from 0 ss) p run)) (pick_yes _ _ (is_true (valid p) v) ∙ pick_yes _ _ (le-leb key 127 h))
-    ∙ ap (λ t. once_tested t p run) (all_checked 0 ss a)
+    ∙ ap (λ t. once_tested t p run) (below_checked 3 0 ss a)
   where
     run : Outcome Panel ℕ
     run = record { state = played ss p; told = done (reads_in ss p) }

@@ -26,8 +26,6 @@ use Rattle.base.proofs.Lists.{below_append}
 use Rattle.ch450.specs.declared.Panel.{Panel}
 use Rattle.ch450.specs.declared.Wires.{Wires}
 use Rattle.ch450.specs.declared.Command.TheVariants.{Parameters, LoadDigit, ReadKey}
-use Rattle.ch450.specs.declared.commands.Meaning.{Meaning}
-use Rattle.ch450.specs.declared.commands.Meaning.TheVariants.{Means, Nothing}
 use Rattle.ch450.specs.Edges.{idle, starts, stops, at_rest, begun, stepped, completes}
 use Rattle.ch450.specs.Panel.{with_wires}
 use Rattle.ch450.specs.Commands.{settings_of, is_digit_byte, meaning_of, word_means, told_at, is_read, obeyed}
@@ -35,6 +33,9 @@ use Rattle.ch450.specs.Samples.{stepped_panel, played, reads_in}
 use Rattle.ch450.specs.Written.{byte_bits, clocking, command_samples, writable}
 use Rattle.ch450.proofs.Silent.{Silent, moved, no_stop, silent_played, silent_reads, played_append, reads_append}
 use Rattle.ch450.proofs.Clocking.{holding, entered, number, bits_silent, bits_taken, few_counted, entered_law, number_append}
+use Rattle.std.specs.declared.option.Option.{Option}
+use Rattle.std.specs.declared.option.Option.TheVariants.{Some, None}
+use Rattle.ch450.specs.declared.Command.{Command}
 
 -- the 19 bits that a command's rises take: both bytes with their acknowledges, and 0 at the rise for the stop
 abbrev pub bits_of : ℕ → List ℕ
@@ -182,11 +183,11 @@ writes_no_read : (first second : ℕ) → (eqb first 0x48 || is_digit_byte first
 unfolding meaning_of
 writes_no_read first second h = by_kind (eqb first 0x48) (is_digit_byte first) h
   where
-    other : Meaning
-    other = pick (eqb first 0x4F) (Means ReadKey) Nothing
+    other : Option Command
+    other = pick (eqb first 0x4F) (Some ReadKey) None
 
     by_kind : (a b : Bool) → (a || b) ≡ true
-        → is_read (pick a (Means (Parameters (settings_of second))) (pick b (Means (LoadDigit (cut first 1 3) second)) other)) ≡ false
+        → is_read (pick a (Some (Parameters (settings_of second))) (pick b (Some (LoadDigit (cut first 1 3) second)) other)) ≡ false
     by_kind true b e = refl
     by_kind false true e = refl
     by_kind false false e = absurd (false≢true e)

@@ -15,14 +15,15 @@ use Rattle.base.specs.Bits.{bit_value}
 use Rattle.base.proofs.Picks.{pick_no, pick_cases}
 use Rattle.ch450.specs.declared.Panel.{Panel}
 use Rattle.ch450.specs.declared.Wires.{Wires}
-use Rattle.ch450.specs.declared.commands.Meaning.{Meaning}
-use Rattle.ch450.specs.declared.commands.Meaning.TheVariants.{Nothing}
 use Rattle.ch450.specs.Edges.{scl, sda, begun, at_rest, taken, seen, stepped}
 use Rattle.ch450.specs.Panel.{with_wires}
 use Rattle.ch450.specs.Commands.{told_at, is_read, obeyed}
 use Rattle.ch450.specs.Samples.{stepped_panel, played, reads_in}
 use Rattle.ch450.specs.Still.{kept}
 use Rattle.ch450.proofs.Silent as S
+use Rattle.std.specs.declared.option.Option.{Option}
+use Rattle.std.specs.declared.option.Option.TheVariants.{None}
+use Rattle.ch450.specs.declared.Command.{Command}
 
 -- ---- the levels after a sample
 
@@ -56,10 +57,10 @@ module _ (w : Wires) where
       ∙ pick_no (at_rest w.levels) _ (no_stop (scl w.levels) (sda w.levels))
       ∙ pick_no (taken w.levels w) (seen w.levels w) (no_rise_lem w.running (scl w.levels))
 
-  told_nothing : told_at w.levels w ≡ Nothing
+  told_nothing : told_at w.levels w ≡ None
   told_nothing = S.told_nothing w.levels w (S.no_stop w.levels w (no_stop (scl w.levels) (sda w.levels)))
 
-pub repeat_nothing : (p : Panel) → (stepped_panel p.wires.levels p ≡ p) × (told_at p.wires.levels p.wires ≡ Nothing)
+pub repeat_nothing : (p : Panel) → (stepped_panel p.wires.levels p ≡ p) × (told_at p.wires.levels p.wires ≡ None)
 unfolding stepped_panel
 repeat_nothing p =
     (ap₂ (λ what w. obeyed what (with_wires w p)) (told_nothing p.wires) (wires_still p.wires), told_nothing p.wires)
@@ -86,7 +87,7 @@ kept_reads p (s ∷ ss) =
     let same = eqb-true s was e in
     kept_reads p ss
     ∙ sym (zero-add (reads_in ss p))
-    ∙ ap₂ (λ (what : Meaning) (q : Panel). bit_value (is_read what) + reads_in ss q)
+    ∙ ap₂ (λ (what : Option Command) (q : Panel). bit_value (is_read what) + reads_in ss q)
     (sym (ap (λ n. told_at n p.wires) same ∙ (repeat_nothing p).1)) (sym (ap (λ n. stepped_panel n p) same ∙ (repeat_nothing p).0)))
     (λ e.
     ap (λ n. first + reads_in (kept n ss) (stepped_panel s p)) (sym (step_levels s p)) ∙ ap (λ n. first + n) (kept_reads (stepped_panel s p) ss))

@@ -1,37 +1,19 @@
 -- What is left of samples: each definition by recursion on them, seen from a place in their middle. A loop's invariant says that the
 -- definition on the rest, with what was done before it, is the definition on the whole.
---     check_more, check_over     refusal 1's test
 --     play_more, play_over       the panel after them
 --     reads_more, reads_over     how many times the key is read
 -- Assumes nothing.
-use mathlib.Core.Path.{◌≡◌, ap, sym, ◌∙◌}
+use mathlib.Core.Path.{◌≡◌, ap}
 use mathlib.Core.List.{List}
 use Prim.Native.Nat.{ℕ, ◌+◌, ◌≤◌, ◌<◌}
-use native.Mathlib.Numerals.{add-one}
-use lib.Dec.{leb}
 use lib.ListN.{length, get_or, drop, drop_of_length-le}
 use Rattle.base.specs.Bits.{bit_value}
-use Rattle.base.specs.Pick.{pick}
-use Rattle.base.specs.Refusals.{done, refused}
 use Rattle.base.proofs.Lists.{rest_is}
 use Rattle.ch450.specs.declared.Panel.{Panel}
 use Rattle.ch450.specs.Commands.{told_at, is_read}
-use Rattle.ch450.specs.Entries.{checked_from}
 use Rattle.ch450.specs.Samples.{stepped_panel, played, reads_in}
 
 module _ (ss : List ℕ) (i : ℕ) where
-  -- ---- refusal 1's test
-
-  pub check_more : i < length ss → checked_from i (drop i ss) ≡ pick (leb (get_or ss i 0) 3) (checked_from (i + 1) (drop (i + 1) ss)) (refused 1 i)
-  unfolding checked_from
-  check_more h =
-      ap (checked_from i) (rest_is ss i 0 h)
-      ∙ ap (λ n. pick (leb (get_or ss i 0) 3) (checked_from n (drop (i + 1) ss)) (refused 1 i)) (sym (add-one i))
-
-  pub check_over : length ss ≤ i → checked_from i (drop i ss) ≡ done tt
-  unfolding checked_from
-  check_over h = ap (checked_from i) (drop_of_length-le ss h)
-
   -- ---- the panel after them
 
   pub play_more : (p : Panel) → i < length ss → played (drop i ss) p ≡ played (drop (i + 1) ss) (stepped_panel (get_or ss i 0) p)

@@ -19,9 +19,9 @@ use Rattle.ch450.specs.Commands.{legal, parameter_byte, word_of, settings_of, me
 use Rattle.ch450.specs.declared.Settings.{Settings}
 use Rattle.ch450.specs.declared.Command.{Command}
 use Rattle.ch450.specs.declared.Command.TheVariants.{Parameters, LoadDigit, ReadKey}
-use Rattle.ch450.specs.declared.commands.Meaning.{Meaning}
-use Rattle.ch450.specs.declared.commands.Meaning.TheVariants.{Means, Nothing}
 use Rattle.ch450.proofs.Digits.{digit_range}
+use Rattle.std.specs.declared.option.Option.{Option}
+use Rattle.std.specs.declared.option.Option.TheVariants.{Some, None}
 
 -- ---- commands to words and back
 
@@ -51,7 +51,7 @@ settings_back s h =
     }
 
 -- and so from their word
-parameters_back : (s : Settings) → s.intens ≤ 3 → word_means (word_of (Parameters s)) ≡ Means (Parameters s)
+parameters_back : (s : Settings) → s.intens ≤ 3 → word_means (word_of (Parameters s)) ≡ Some (Parameters s)
 unfolding meaning_of
 parameters_back s h =
     let a = bit_value_lt s.sleep in
@@ -60,11 +60,11 @@ parameters_back s h =
     let w = word_of (Parameters s) in
     let byte : cut w 0 8 ≡ parameter_byte s = omega arith in
     pick_yes _ _ (eq-eqb (cut w 8 8) 0x48 (omega arith))
-    ∙ ap (λ (x : ℕ). Means (Parameters (settings_of x))) byte
-    ∙ ap (λ (t : Settings). Means (Parameters t)) (settings_back s h)
+    ∙ ap (λ (x : ℕ). Some (Parameters (settings_of x))) byte
+    ∙ ap (λ (t : Settings). Some (Parameters t)) (settings_back s h)
 
 -- so does a digit
-digit_back : (dig byte : ℕ) → 2 ≤ dig → dig ≤ 7 → byte < 256 → word_means (word_of (LoadDigit dig byte)) ≡ Means (LoadDigit dig byte)
+digit_back : (dig byte : ℕ) → 2 ≤ dig → dig ≤ 7 → byte < 256 → word_means (word_of (LoadDigit dig byte)) ≡ Some (LoadDigit dig byte)
 unfolding meaning_of
 digit_back dig byte h l m =
     let w = word_of (LoadDigit dig byte) in
@@ -72,9 +72,9 @@ digit_back dig byte h l m =
     let d : cut first 1 3 ≡ dig = omega arith in
     let b : cut w 0 8 ≡ byte = omega arith in
     let known = ap₂ ◌&&◌ (ap₂ ◌&&◌ (le-leb 0x64 first (omega arith)) (le-leb first 0x6E (omega arith))) (eq-eqb (first % 2) 0 (omega arith)) in
-    pick_no _ _ (ne_eqb first 0x48 (omega arith)) ∙ pick_yes _ _ known ∙ ap₂ (λ (x y : ℕ). Means (LoadDigit x y)) d b
+    pick_no _ _ (ne_eqb first 0x48 (omega arith)) ∙ pick_yes _ _ known ∙ ap₂ (λ (x y : ℕ). Some (LoadDigit x y)) d b
 
-pub command_back : (c : Command) → legal c ≡ true → Held c → word_means (word_of c) ≡ Means c
+pub command_back : (c : Command) → legal c ≡ true → Held c → word_means (word_of c) ≡ Some c
 unfolding meaning_of
 command_back (Parameters s) e t = parameters_back s (leb-true s.intens 3 e)
 command_back (LoadDigit dig byte) e t = digit_back dig byte (digit_range dig e).0 (digit_range dig e).1 t
@@ -87,9 +87,9 @@ abbrev pub plain : ℕ → ℕ
 plain w = pick (eqb (cut w 8 8) 0x48) (w - 4 * cut w 2 3) (pick (eqb (cut w 8 8) 0x4F) (w - cut w 0 8) w)
 
 -- a test of what bytes mean, passed where they mean nothing
-abbrev means : (Command → Bool) → Meaning → Bool
-means f (Means c) = f c
-means f Nothing = true
+abbrev means : (Command → Bool) → (Option Command) → Bool
+means f (Some c) = f c
+means f None = true
 
 -- a command is legal, and its word is this one but for the ignored bits
 abbrev fits : ℕ → Command → Bool
@@ -100,17 +100,17 @@ abbrev pair : ℕ → ℕ → Bool
 pair first second = means (fits (256 * first + second)) (meaning_of first second)
 
 -- all pairs of bytes pass it
-by_bytes : (w : ℕ) (c : Command) → w < 65536 → word_means w ≡ Means c → T (fits w c)
+by_bytes : (w : ℕ) (c : Command) → w < 65536 → word_means w ≡ Some c → T (fits w c)
 unfolding meaning_of
 by_bytes w c h e =
     let first = cut w 8 8 in
     let second = cut w 0 8 in
     let whole : 256 * first + second ≡ w = omega arith in
     let passed = at_below (pair first) 256 (at_below (λ f. below (pair f) 256) 256 tt first (cut_lt w 8 8)) second (cut_lt w 0 8) in
-    subst (λ (x : ℕ). T (fits x c)) whole (subst (λ (m : Meaning). T (means (fits (256 * first + second)) m)) e passed)
+    subst (λ (x : ℕ). T (fits x c)) whole (subst (λ (m : Option Command). T (means (fits (256 * first + second)) m)) e passed)
 
-pub word_back : (w : ℕ) (c : Command) → w < 65536 → word_means w ≡ Means c → word_of c ≡ plain w
+pub word_back : (w : ℕ) (c : Command) → w < 65536 → word_means w ≡ Some c → word_of c ≡ plain w
 word_back w c h e = eqb→eq (word_of c) (plain w) (and_right (legal c) (eqb (word_of c) (plain w)) (by_bytes w c h e))
 
-pub meaning_legal : (w : ℕ) (c : Command) → w < 65536 → word_means w ≡ Means c → legal c ≡ true
+pub meaning_legal : (w : ℕ) (c : Command) → w < 65536 → word_means w ≡ Some c → legal c ≡ true
 meaning_legal w c h e = is_true (legal c) (and_left (legal c) (eqb (word_of c) (plain w)) (by_bytes w c h e))

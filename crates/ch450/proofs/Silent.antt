@@ -21,12 +21,13 @@ use Rattle.base.proofs.Picks.{pick_no, pick_cases}
 use Rattle.ch450.specs.declared.Panel.{Panel}
 use Rattle.ch450.specs.declared.Wires.{Wires}
 use Rattle.ch450.specs.declared.Command.TheVariants.{Parameters, LoadDigit, ReadKey}
-use Rattle.ch450.specs.declared.commands.Meaning.{Meaning}
-use Rattle.ch450.specs.declared.commands.Meaning.TheVariants.{Means, Nothing}
 use Rattle.ch450.specs.Edges.{stops, stepped, completes, first_byte, second_byte, starts, takes, begun, at_rest, taken, seen}
 use Rattle.ch450.specs.Panel.{with_wires}
 use Rattle.ch450.specs.Commands.{is_digit, meaning_of, told_at, is_read, applied, obeyed}
 use Rattle.ch450.specs.Samples.{stepped_panel, played, reads_in}
+use Rattle.std.specs.declared.option.Option.{Option}
+use Rattle.std.specs.declared.option.Option.TheVariants.{Some, None}
+use Rattle.ch450.specs.declared.Command.{Command}
 
 -- the wires after samples, by themselves
 unfoldable pub moved : List ℕ → Wires → Wires
@@ -49,9 +50,9 @@ pub no_stop : (s : ℕ) (w : Wires) → stops w.levels s ≡ false → completes
 unfolding completes
 no_stop s w e = ap (λ b. w.running && eqb w.rises 19 && b) e ∙ and_no (w.running && eqb w.rises 19)
 
-pub told_nothing : (s : ℕ) (w : Wires) → completes s w ≡ false → told_at s w ≡ Nothing
+pub told_nothing : (s : ℕ) (w : Wires) → completes s w ≡ false → told_at s w ≡ None
 unfolding told_at
-told_nothing s w e = pick_no (meaning_of (first_byte w) (second_byte w)) Nothing e
+told_nothing s w e = pick_no (meaning_of (first_byte w) (second_byte w)) None e
 
 pub silent_step : (s : ℕ) (p : Panel) → completes s p.wires ≡ false → stepped_panel s p ≡ with_wires (stepped s p.wires) p
 unfolding stepped_panel
@@ -107,21 +108,21 @@ reads_append (x ∷ xs) ys p =
 
 -- ---- what is obeyed
 
-pub obeyed_wires : (m : Meaning) (w : Wires) (p : Panel) → obeyed m (with_wires w p) ≡ with_wires w (obeyed m p)
+pub obeyed_wires : (m : Option Command) (w : Wires) (p : Panel) → obeyed m (with_wires w p) ≡ with_wires w (obeyed m p)
 unfolding applied
-obeyed_wires (Means (Parameters s)) w p = refl
-obeyed_wires (Means (LoadDigit dig byte)) w p = refl
-obeyed_wires (Means ReadKey) w p = refl
-obeyed_wires Nothing w p = refl
+obeyed_wires (Some (Parameters s)) w p = refl
+obeyed_wires (Some (LoadDigit dig byte)) w p = refl
+obeyed_wires (Some ReadKey) w p = refl
+obeyed_wires None w p = refl
 
-pub obeyed_digits : (m : Meaning) (p : Panel) → length (obeyed m p).digits ≡ length p.digits
+pub obeyed_digits : (m : Option Command) (p : Panel) → length (obeyed m p).digits ≡ length p.digits
 unfolding applied
-obeyed_digits (Means (Parameters s)) p = refl
-obeyed_digits (Means (LoadDigit dig byte)) p =
+obeyed_digits (Some (Parameters s)) p = refl
+obeyed_digits (Some (LoadDigit dig byte)) p =
     pick_cases (λ (ds : List ℕ). length ds ≡ length p.digits) (is_digit dig) {x = set p.digits (dig - 2) byte} {y = p.digits}
     (λ _. length-set p.digits (dig - 2) byte) (λ _. refl)
-obeyed_digits (Means ReadKey) p = refl
-obeyed_digits Nothing p = refl
+obeyed_digits (Some ReadKey) p = refl
+obeyed_digits None p = refl
 
 pub step_wires : (s : ℕ) (p : Panel) → (stepped_panel s p).wires ≡ stepped s p.wires
 unfolding stepped_panel

@@ -22,10 +22,9 @@ use Rattle.base.proofs.Tests.{by_order}
 use Rattle.base.proofs.Lists.{rest_is}
 use Rattle.ch450.specs.declared.Panel.{Panel}
 use Rattle.ch450.specs.declared.Wires.{Wires}
-use Rattle.ch450.specs.declared.commands.Meaning.{Meaning}
 use Rattle.ch450.specs.declared.play.Stretch.{Stretch}
 use Rattle.ch450.specs.declared.play.Transfer.{Transfer}
-use Rattle.ch450.specs.declared.play.Transfer.TheVariants.{Bytes, Nothing}
+use Rattle.std.specs.declared.option.Option.TheVariants.{Some, None}
 use Rattle.ch450.specs.Commands.{meaning_of, told_at, is_read}
 use Rattle.ch450.specs.Edges.{completes, stepped, first_byte, second_byte}
 use Rattle.ch450.specs.Panel.{with_wires}
@@ -33,14 +32,16 @@ use Rattle.ch450.specs.Samples.{stepped_panel, played, reads_in}
 use Rattle.ch450.specs.Stretch.{stretch_from, read_by}
 use Rattle.ch450.proofs.Rest.{play_more, reads_more}
 use Rattle.ch450.proofs.Silent.{told_nothing, silent_step}
+use Rattle.std.specs.declared.option.Option.{Option}
+use Rattle.ch450.specs.declared.Command.{Command}
 
 -- the bytes of a transfer that a stop completes
-abbrev pub bytes_in : Wires → Transfer
-bytes_in w = Bytes (first_byte w) (second_byte w)
+abbrev pub bytes_in : Wires → Option Transfer
+bytes_in w = Some (record { first = first_byte w; second = second_byte w })
 
 -- no sample is left, and no transfer was completed
 abbrev pub ended : ℕ → Panel → Stretch
-ended place p = record { panel = p; stop = place; transfer = Nothing }
+ended place p = record { panel = p; stop = place; transfer = None }
 
 -- the last sample completed a transfer
 abbrev pub stopped : ℕ → ℕ → Panel → Stretch
@@ -54,9 +55,9 @@ told_stop s w e = pick_yes _ _ e
 
 -- ---- a transfer's reads
 
-pub read_once : (t : Transfer) → read_by t ≤ 1
-read_once (Bytes first second) = let once = bit_value_lt (is_read (meaning_of first second)) in omega arith
-read_once Nothing = omega arith
+pub read_once : (t : Option Transfer) → read_by t ≤ 1
+read_once (Some t) = let once = bit_value_lt (is_read (meaning_of t.first t.second)) in omega arith
+read_once None = omega arith
 
 module _ (ss : List ℕ) where
   -- ---- a sample more
@@ -140,13 +141,13 @@ module _ (ss : List ℕ) where
         (λ i p more q.
         sym
         (reads_more ss i p more
-        ∙ ap (λ (m : Meaning). bit_value (is_read m) + reads_in (drop (i + 1) ss) (stepped_panel (get_or ss i 0) p))
+        ∙ ap (λ (m : Option Command). bit_value (is_read m) + reads_in (drop (i + 1) ss) (stepped_panel (get_or ss i 0) p))
         (told_stop (get_or ss i 0) p.wires q)))
         (λ i p t more q r.
         r
         ∙ sym
         (reads_more ss i p more
-        ∙ ap (λ (m : Meaning). bit_value (is_read m) + reads_in (drop (i + 1) ss) (stepped_panel (get_or ss i 0) p))
+        ∙ ap (λ (m : Option Command). bit_value (is_read m) + reads_in (drop (i + 1) ss) (stepped_panel (get_or ss i 0) p))
         (told_nothing (get_or ss i 0) p.wires q)
         ∙ zero-add (reads_in (drop (i + 1) ss) (stepped_panel (get_or ss i 0) p))))
         i p

@@ -1,40 +1,45 @@
 -- The words of a list, tested from the first on.
---     words_more, words_over     the test of the rest, seen from a place in the middle
---     words_bad                  a word that is neither a parameter nor a digit command
+--     first_bad                  by the first that is neither a parameter nor a digit command
 --     list_long, list_short      over 64 commands, and at most 64
 --     few_words                  what a list that passed its tests has
 -- Assumes nothing.
+use Rattle.std.proofs.Common.{Option, Some, None, position, cond}
+use Rattle.std.proofs.lemmas.Iterator.Adapters.{position_from-zero}
+use Rattle.std.specs.List.{position_from}
 use mathlib.Core.Path.{◌≡◌, refl, ap, sym, subst, ◌∙◌}
-use mathlib.Core.Bool.{Bool, true, false}
-use mathlib.Core.List.{List}
-use Prim.Native.Nat.{ℕ, ◌+◌, ◌≤◌, ◌<◌}
+use mathlib.Core.Bool.{Bool, true, false, not}
+use mathlib.Core.List.{List, [], ◌∷◌}
+use Prim.Native.Nat.{ℕ, suc, ◌+◌, ◌≤◌, ◌<◌}
 use native.Mathlib.Numerals.{add-one}
 use borrow.Author.Tests.{le-leb, lt-leb, leb-true}
 use lib.Dec.{leb}
-use lib.ListN.{length, get_or, drop, drop_of_length-le}
-use lib.Seq.{drop-cons}
+use lib.ListN.{length}
 use Rattle.base.specs.Pick.{pick}
 use Rattle.base.specs.Refusals.{Told, IsDone, done, refused}
 use Rattle.base.proofs.Picks.{pick_yes, pick_no}
 use Rattle.ch450.specs.Written.{writable, words_from, list_test}
 
--- the rest begins with the word at its place
-words_from_lem : (ws : List ℕ) (i : ℕ) → i < length ws
-    → words_from i (drop i ws) ≡ pick (writable (get_or ws i 0)) (words_from (i + 1) (drop (i + 1) ws)) (refused 9 i)
+-- what the first place of such a word tells
+abbrev pub told_first : Option ℕ → Told (Unit {0})
+told_first None = done tt
+told_first (Some place) = refused 9 place
+
+-- neither a parameter nor a digit command
+abbrev pub is_bad : ℕ → Bool
+is_bad w = not (writable w)
+
+bad_from : (place : ℕ) (ws : List ℕ) → words_from place ws ≡ told_first (position_from is_bad place ws)
 unfolding words_from
-words_from_lem ws i h =
-    ap (words_from i) (drop-cons ws i 0 h)
-    ∙ ap (λ m. pick (writable (get_or ws i 0)) (words_from m (drop m ws)) (refused 9 i)) (sym (add-one i))
+bad_from place [] = refl
+bad_from place (w ∷ ws) = go (writable w) (bad_from (suc place) ws)
+  where
+    go : (b : Bool) → words_from (suc place) ws ≡ told_first (position_from is_bad (suc place) ws)
+        → pick b (words_from (suc place) ws) (refused 9 place) ≡ told_first (cond (not b) (Some place) (position_from is_bad (place + 1) ws))
+    go true e = rw add-one e
+    go false e = refl
 
-pub words_more : (ws : List ℕ) (i : ℕ) → i < length ws → writable (get_or ws i 0) ≡ true → words_from i (drop i ws) ≡ words_from (i + 1) (drop (i + 1) ws)
-words_more ws i h e = words_from_lem ws i h ∙ pick_yes (words_from (i + 1) (drop (i + 1) ws)) (refused 9 i) e
-
-pub words_bad : (ws : List ℕ) (i : ℕ) → i < length ws → writable (get_or ws i 0) ≡ false → words_from i (drop i ws) ≡ refused 9 i
-words_bad ws i h e = words_from_lem ws i h ∙ pick_no (words_from (i + 1) (drop (i + 1) ws)) (refused 9 i) e
-
-pub words_over : (ws : List ℕ) (i : ℕ) → length ws ≤ i → words_from i (drop i ws) ≡ done tt
-unfolding words_from
-words_over ws i h = ap (words_from i) (drop_of_length-le ws h)
+pub first_bad : (ws : List ℕ) → words_from 0 ws ≡ told_first (position is_bad ws)
+first_bad ws = bad_from 0 ws ∙ ap told_first (sym (position_from-zero is_bad ws))
 
 -- ---- the list
 

@@ -23,12 +23,12 @@ use Rattle.ch450.specs.declared.Panel.{Panel}
 use Rattle.ch450.specs.declared.Wires.{Wires}
 use Rattle.ch450.specs.declared.Command.{Command}
 use Rattle.ch450.specs.declared.Command.TheVariants.{Parameters, LoadDigit, ReadKey}
-use Rattle.ch450.specs.declared.commands.Meaning.{Meaning}
-use Rattle.ch450.specs.declared.commands.Meaning.TheVariants.{Means, Nothing}
 use Rattle.ch450.specs.Edges.{scl, sda, scl_rises, stays_high, starts, stops, takes, begun, at_rest, one_more, moved_up, taken, seen, stepped, completes, first_byte, second_byte}
 use Rattle.ch450.specs.Panel.{last_bit, kept_of, valid_transfer, valid_wires, valid, power_on, with_wires}
 use Rattle.ch450.specs.Commands.{legal, settings_of, is_digit_byte, meaning_of, told_at, applied, obeyed, woken, obey}
 use Rattle.ch450.specs.Samples.{stepped_panel, played}
+use Rattle.std.specs.declared.option.Option.{Option}
+use Rattle.std.specs.declared.option.Option.TheVariants.{Some, None}
 
 -- ---- what valid records are made of
 
@@ -71,42 +71,42 @@ power_on_valid digits = tt
 -- ---- commands
 
 -- INTENS, where there is one, has two bits
-abbrev Fair : Meaning → Type 0
-Fair (Means (Parameters s)) = s.intens ≤ 3
-Fair (Means (LoadDigit dig byte)) = Unit {0}
-Fair (Means ReadKey) = Unit {0}
-Fair Nothing = Unit {0}
+abbrev Fair : Option Command → Type 0
+Fair (Some (Parameters s)) = s.intens ≤ 3
+Fair (Some (LoadDigit dig byte)) = Unit {0}
+Fair (Some ReadKey) = Unit {0}
+Fair None = Unit {0}
 
 -- so what two bytes mean leaves a valid panel valid
-obeyed_valid : (what : Meaning) (p : Panel) → Fair what → T (valid p) → T (valid (obeyed what p))
+obeyed_valid : (what : Option Command) (p : Panel) → Fair what → T (valid p) → T (valid (obeyed what p))
 unfolding applied
-obeyed_valid (Means (Parameters s)) p f v = make_valid (obey (Parameters s) (woken p)) (valid_parts p v).0 f
-obeyed_valid (Means (LoadDigit dig byte)) p f v =
+obeyed_valid (Some (Parameters s)) p f v = make_valid (obey (Parameters s) (woken p)) (valid_parts p v).0 f
+obeyed_valid (Some (LoadDigit dig byte)) p f v =
     make_valid (obey (LoadDigit dig byte) (woken p)) (valid_parts p v).0 (valid_parts p v).1
-obeyed_valid (Means ReadKey) p f v = make_valid (woken p) (valid_parts p v).0 (valid_parts p v).1
-obeyed_valid Nothing p f v = v
+obeyed_valid (Some ReadKey) p f v = make_valid (woken p) (valid_parts p v).0 (valid_parts p v).1
+obeyed_valid None p f v = v
 
 -- as a legal command's has
-legal_fair : (command : Command) → T (legal command) → Fair (Means command)
+legal_fair : (command : Command) → T (legal command) → Fair (Some command)
 legal_fair (Parameters s) t = leb→le s.intens 3 t
 legal_fair (LoadDigit dig byte) t = tt
 legal_fair ReadKey t = tt
 
 pub applied_valid : (command : Command) (p : Panel) → T (legal command) → T (valid p) → T (valid (applied command p))
-applied_valid command p t v = obeyed_valid (Means command) p (legal_fair command t) v
+applied_valid command p t v = obeyed_valid (Some command) p (legal_fair command t) v
 
 -- two bytes set INTENS to two bits
 meaning_fair : (first second : ℕ) → Fair (meaning_of first second)
 unfolding meaning_of
 meaning_fair first second =
-    pick_cases Fair (eqb first 0x48) {x = Means (Parameters (settings_of second))} (λ e. le_of_suc-le-suc (cut_lt second 5 2))
-    (λ e. pick_cases Fair (is_digit_byte first) {x = Means (LoadDigit (cut first 1 3) second)} (λ e. tt)
-    (λ e. pick_cases Fair (eqb first 0x4F) {x = Means ReadKey} {y = Nothing} (λ e. tt) (λ e. tt)))
+    pick_cases Fair (eqb first 0x48) {x = Some (Parameters (settings_of second))} (λ e. le_of_suc-le-suc (cut_lt second 5 2))
+    (λ e. pick_cases Fair (is_digit_byte first) {x = Some (LoadDigit (cut first 1 3) second)} (λ e. tt)
+    (λ e. pick_cases Fair (eqb first 0x4F) {x = Some ReadKey} {y = None} (λ e. tt) (λ e. tt)))
 
 -- and so does what a sample tells
 told_fair : (now : ℕ) (w : Wires) → Fair (told_at now w)
 unfolding told_at
-told_fair now w = pick_cases Fair (completes now w) {y = Nothing} (λ e. meaning_fair (first_byte w) (second_byte w)) (λ e. tt)
+told_fair now w = pick_cases Fair (completes now w) {y = None} (λ e. meaning_fair (first_byte w) (second_byte w)) (λ e. tt)
 
 -- ---- one sample
 

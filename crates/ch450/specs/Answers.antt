@@ -1,5 +1,5 @@
 -- Document 02, C-15: which levels can change the display: a stop after exactly 19 rises since its start, and nothing else. The rises are
--- counted here from the samples alone. proofs/Changes.antt proves it: `only-stops-after-19`.
+-- counted here from the samples alone. proofs/Changes.antt proves it: `only_stops_after_19`.
 -- Assumes nothing.
 use Rattle.std.specs.Prelude.{◌≡◌, true, List, [], ◌∷◌, ◌++◌, ℕ, suc}
 use Rattle.base.specs.Pick.{pick}

@@ -11,9 +11,10 @@ use Rattle.ch450.specs.Edges.{idle}
 use Rattle.ch450.specs.Panel.{valid, lit_of}
 use Rattle.ch450.specs.Commands.{encoded_of}
 use Rattle.ch450.specs.Samples.{played}
-use Rattle.ch450.specs.Entries.{the_code, sampled_of, played_of}
+use Rattle.ch450.specs.Entries.{sampled_of, played_of}
 use Rattle.ch450.specs.Written.{command_samples}
 use Rattle.ch450.specs.Demand.{played_back}
+use Rattle.std.specs.declared.option.Option.TheVariants.{Some}
 
 -- what is said of any panel, and of what it comes to when a list is written into a buffer and played from there, with any key's code
 abbrev pub Shows : List ℕ → (Panel → Outcome Panel ℕ → Type 0) → Type 0
@@ -53,7 +54,7 @@ reading = command_samples 0x4FFF
 
 -- the read is answered with a code at its stop, the last of its samples, and a block that has it counts one read
 abbrev pub Reads : ℕ → Panel → Type 0
-Reads code p = ((sampled_of (played (take 39 reading) p) code 3).told ≡ done (the_code code)) × ((played_of p code reading).told ≡ done 1)
+Reads code p = ((sampled_of (played (take 39 reading) p) code 3).told ≡ done (Some code)) × ((played_of p code reading).told ≡ done 1)
 
 -- every case of the CH450
 abbrev pub ch450_cases : List (Type 0)

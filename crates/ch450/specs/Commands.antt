@@ -9,10 +9,10 @@ use Rattle.ch450.specs.declared.Panel.{Panel}
 use Rattle.ch450.specs.declared.Wires.{Wires}
 use Rattle.ch450.specs.declared.Command.{Command}
 use Rattle.ch450.specs.declared.Command.TheVariants.{Parameters, LoadDigit, ReadKey}
-use Rattle.ch450.specs.declared.commands.Meaning.{Meaning}
-use Rattle.ch450.specs.declared.commands.Meaning.TheVariants.{Means, Nothing}
 use Rattle.ch450.specs.Edges.{completes, first_byte, second_byte}
 use Rattle.ch450.specs.Panel.{with_settings, with_digits}
+use Rattle.std.specs.declared.option.Option.{Option}
+use Rattle.std.specs.declared.option.Option.TheVariants.{Some, None}
 
 -- ---- a command's word: byte 1 · 256 + byte 2
 
@@ -51,18 +51,18 @@ abbrev pub is_digit_byte : ℕ → Bool
 is_digit_byte byte = leb 0x64 byte && leb byte 0x6E && eqb (byte % 2) 0
 
 -- others than these mean nothing
-unfoldable pub meaning_of : ℕ → ℕ → Meaning
+unfoldable pub meaning_of : ℕ → ℕ → (Option Command)
 meaning_of first second =
-    pick (eqb first 0x48) (Means (Parameters (settings_of second)))
-    (pick (is_digit_byte first) (Means (LoadDigit (cut first 1 3) second)) (pick (eqb first 0x4F) (Means ReadKey) Nothing))
+    pick (eqb first 0x48) (Some (Parameters (settings_of second)))
+    (pick (is_digit_byte first) (Some (LoadDigit (cut first 1 3) second)) (pick (eqb first 0x4F) (Some ReadKey) None))
 
 -- what a word means, by its two bytes
-abbrev pub word_means : ℕ → Meaning
+abbrev pub word_means : ℕ → (Option Command)
 word_means w = meaning_of (cut w 8 8) (cut w 0 8)
 
 -- what a sample makes the panel do: at a stop that completes a command, what its bytes mean
-unfoldable pub told_at : ℕ → Wires → Meaning
-told_at now w = pick (completes now w) (meaning_of (first_byte w) (second_byte w)) Nothing
+unfoldable pub told_at : ℕ → Wires → (Option Command)
+told_at now w = pick (completes now w) (meaning_of (first_byte w) (second_byte w)) None
 
 -- the key is read
 abbrev pub reads_key : Command → Bool
@@ -70,9 +70,9 @@ reads_key (Parameters s) = false
 reads_key (LoadDigit dig byte) = false
 reads_key ReadKey = true
 
-abbrev pub is_read : Meaning → Bool
-is_read (Means command) = reads_key command
-is_read Nothing = false
+abbrev pub is_read : Option Command → Bool
+is_read (Some command) = reads_key command
+is_read None = false
 
 -- ---- what a command does
 
@@ -96,6 +96,6 @@ unfoldable pub applied : Command → Panel → Panel
 applied command p = obey command (woken p)
 
 -- an unknown byte 1 has no effect at all: it doesn't clear SLEEP either
-abbrev pub obeyed : Meaning → Panel → Panel
-obeyed (Means command) p = applied command p
-obeyed Nothing p = p
+abbrev pub obeyed : Option Command → Panel → Panel
+obeyed (Some command) p = applied command p
+obeyed None p = p

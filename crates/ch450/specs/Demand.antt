@@ -1,7 +1,7 @@
 -- Document 02, C-15: the counterpart of demand 3 for one chip. From any valid record with idle lines and any commands that the writer
 -- accepts, the written samples are played; in every beginning of them settings and digits are as if the commands whose stop has come had
--- been applied directly, each once and in order. proofs/Demanded.antt proves it: `each-once`. And the same of the entries: what one
--- wrote, the other plays: `write-then-play`.
+-- been applied directly, each once and in order. proofs/Demanded.antt proves it: `each_once`. And the same of the entries: what one
+-- wrote, the other plays: `write_then_play`.
 -- Assumes nothing.
 use Rattle.std.specs.Prelude.{◌≡◌, List, [], ◌∷◌, ℕ, suc, ◌*◌, ◌/◌, ◌%◌, ◌≤◌, T, length, take}
 use Rattle.base.specs.Refusals.{Outcome, done}

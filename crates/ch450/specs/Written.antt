@@ -4,10 +4,10 @@ use Rattle.std.specs.Prelude.{◌≡◌, ℕ, suc, ◌+◌, ◌*◌, Bool, ◌||
 use Rattle.base.specs.Bits.{cut}
 use Rattle.base.specs.Lent.{laid}
 use Rattle.base.specs.Pick.{pick}
-use Rattle.base.specs.Refusals.{Told, done, refused, refused_by}
-use Rattle.ch450.specs.declared.writer.Written.{Written}
-use Rattle.ch450.specs.declared.writer.Written.TheVariants.{Samples, Refused}
+use Rattle.base.specs.Refusals.{Told, done, refused, tells}
 use Rattle.ch450.specs.Commands.{is_digit_byte}
+use Rattle.std.specs.declared.result.Result.{Result}
+use Rattle.base.specs.declared.Refusal.{Refusal}
 
 -- ---- samples
 
@@ -47,11 +47,6 @@ list_test ws = pick (leb (length ws) 64) (words_from 0 ws) (refused 5 0)
 
 -- ---- the entry
 
--- what the answer tells
-abbrev pub written_tells : Written → Told ℕ
-written_tells (Samples count) = done count
-written_tells (Refused e) = refused_by e
-
 -- the list's own refusal, or 8 where the buffer is shorter than the samples, or their number
 abbrev pub answer_by : Told (Unit {0}) → ℕ → ℕ → Told ℕ
 answer_by (refused number place) need have = refused number place
@@ -67,6 +62,6 @@ bytes_by (refused number place) samples out = out
 bytes_by (done count) samples out = laid samples out
 
 -- what `write` does: its answer, and the buffer after it
-pub record Writes (words out : List ℕ) (r : Written) (out' : List ℕ) : Type 0 where
-  pub answer : written_tells r ≡ answer_of words out
+pub record Writes (words out : List ℕ) (r : Result ℕ Refusal) (out' : List ℕ) : Type 0 where
+  pub answer : tells r ≡ answer_of words out
   pub bytes : out' ≡ bytes_by (answer_of words out) (written words) out

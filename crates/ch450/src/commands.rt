@@ -1,32 +1,16 @@
 // What bytes mean, the words of commands, and what commands do. A command's word is byte 1 · 256 + byte 2. The entry is `encode`.
 ghost use Rattle.std.specs.Prelude.{◌≡◌};
+ghost use Rattle.base.specs.Refusals.{tells};
 ghost use Rattle.ch450.specs.Commands as C;
-ghost use Rattle.ch450.specs.Entries as E;
 
 use crate::{Command, Panel, Settings};
 use base::Refusal;
-
-// What two bytes mean; nothing, where byte 1 is unknown.
-#[derive(Clone, Copy)]
-pub enum Meaning {
-    Means(Command),
-    Nothing,
-}
-
-#[derive(Clone, Copy)]
-pub enum Encoded {
-    Word(u16),
-    Refused(Refusal),
-}
 
 // Whether there is such a digit: DIG2 to DIG7.
 fn is_digit(digit: u8) -> bool
     ensures { result ≡ C.is_digit digit }
 {
-    if digit < 2 {
-        return false;
-    }
-    digit <= 7
+    2 <= digit && digit <= 7
 }
 
 // Whether every field is in its range.
@@ -41,36 +25,38 @@ pub(crate) fn is_legal(command: Command) -> bool
 }
 
 // 48H, and SLEEP INTENS(2) 000 KEYB DISP.
-fn parameters_word(s: Settings) -> Encoded
-    ensures { E.encoded_tells result ≡ C.encoded_of (Command.Parameters s) }
+#[tactic(auto, unfolding(crate::specs::Commands::encoded_of))]
+fn parameters_word(s: Settings) -> Result<u16, Refusal>
+    ensures { tells result ≡ C.encoded_of (Command.Parameters s) }
 {
     if s.intens > 3 {
-        return Encoded::Refused(Refusal::Field(0));
+        return Err(Refusal::Field(0));
     }
-    let sleep = base::bit_value(s.sleep) << 7;
-    let intens = (s.intens as u16) << 5;
-    let keyb = base::bit_value(s.keyb) << 1;
-    Encoded::Word(0x4800 + sleep + intens + keyb + base::bit_value(s.disp))
+    let sleep = u16::from(s.sleep) << 7;
+    let intens = u16::from(s.intens) << 5;
+    let keyb = u16::from(s.keyb) << 1;
+    Ok(0x4800 + sleep + intens + keyb + u16::from(s.disp))
 }
 
 // 64H for DIG2 and two more for each next digit, and the data byte.
-fn digit_word(digit: u8, byte: u8) -> Encoded
-    ensures { E.encoded_tells result ≡ C.encoded_of (Command.LoadDigit digit byte) }
+#[tactic(auto, unfolding(crate::specs::Commands::encoded_of))]
+fn digit_word(digit: u8, byte: u8) -> Result<u16, Refusal>
+    ensures { tells result ≡ C.encoded_of (Command.LoadDigit digit byte) }
 {
     if !is_digit(digit) {
-        return Encoded::Refused(Refusal::Field(0));
+        return Err(Refusal::Field(0));
     }
-    Encoded::Word(((0x60 + 2 * (digit as u16)) << 8) + (byte as u16))
+    Ok(((0x60 + 2 * u16::from(digit)) << 8) + u16::from(byte))
 }
 
 // The word of a command: refusal 9.
-pub fn encode(command: Command) -> Encoded
-    ensures { E.encoded_tells result ≡ C.encoded_of command }
+pub fn encode(command: Command) -> Result<u16, Refusal>
+    ensures { tells result ≡ C.encoded_of command }
 {
     match command {
         Command::Parameters(s) => parameters_word(s),
         Command::LoadDigit { digit, byte } => digit_word(digit, byte),
-        Command::ReadKey => Encoded::Word(0x4F00),
+        Command::ReadKey => Ok(0x4F00),
     }
 }
 
@@ -78,7 +64,7 @@ pub fn encode(command: Command) -> Encoded
 fn settings_of(byte: u8) -> Settings
     ensures { result ≡ C.settings_of byte }
 {
-    let wide = byte as u16;
+    let wide = u16::from(byte);
     Settings {
         sleep: base::field(wide, 7, 1) == 1,
         intens: base::field(wide, 5, 2) as u8,
@@ -91,41 +77,36 @@ fn settings_of(byte: u8) -> Settings
 pub(crate) fn is_digit_byte(byte: u8) -> bool
     ensures { result ≡ C.is_digit_byte byte }
 {
-    if byte < 0x64 {
-        return false;
-    }
-    if byte > 0x6E {
-        return false;
-    }
-    byte % 2 == 0
+    0x64 <= byte && byte <= 0x6E && byte % 2 == 0
 }
 
 // What two bytes mean.
-pub fn meaning_of(first: u8, second: u8) -> Meaning
+#[tactic(auto, unfolding(crate::specs::Commands::meaning_of))]
+pub fn meaning_of(first: u8, second: u8) -> Option<Command>
     ensures { result ≡ C.meaning_of first second }
 {
     if first == 0x48 {
-        return Meaning::Means(Command::Parameters(settings_of(second)));
+        return Some(Command::Parameters(settings_of(second)));
     }
     if is_digit_byte(first) {
-        return Meaning::Means(Command::LoadDigit {
-            digit: base::field(first as u16, 1, 3) as u8,
+        return Some(Command::LoadDigit {
+            digit: base::field(u16::from(first), 1, 3) as u8,
             byte: second,
         });
     }
     if first == 0x4F {
-        return Meaning::Means(Command::ReadKey);
+        return Some(Command::ReadKey);
     }
-    Meaning::Nothing
+    None
 }
 
 // Whether the key is read.
-pub fn is_read(what: Meaning) -> bool
+pub fn is_read(what: Option<Command>) -> bool
     ensures { result ≡ C.is_read what }
 {
     match what {
-        Meaning::Means(command) => reads_key(command),
-        Meaning::Nothing => false,
+        Some(command) => reads_key(command),
+        None => false,
     }
 }
 
@@ -133,11 +114,7 @@ pub fn is_read(what: Meaning) -> bool
 fn reads_key(command: Command) -> bool
     ensures { result ≡ C.reads_key command }
 {
-    match command {
-        Command::Parameters(_) => false,
-        Command::LoadDigit { digit: _, byte: _ } => false,
-        Command::ReadKey => true,
-    }
+    matches!(command, Command::ReadKey)
 }
 
 // One digit's data byte exchanged; DIG2 is the first, and there is none past DIG7.
@@ -146,8 +123,7 @@ fn with_digit(digit: u8, byte: u8, digits: [u8; 6]) -> [u8; 6]
 {
     let mut ds = digits;
     if is_digit(digit) {
-        let at = (digit - 2) as usize;
-        ds[at] = byte;
+        ds[usize::from(digit - 2)] = byte;
     }
     ds
 }
@@ -165,23 +141,18 @@ fn woken(panel: Panel) -> Panel
 fn obey(command: Command, panel: Panel) -> Panel
     ensures { result ≡ C.obey command panel }
 {
-    let mut next = panel;
-    let digits = panel.digits;
     match command {
-        Command::Parameters(s) => {
-            next.settings = s;
-            next
-        }
-        Command::LoadDigit { digit, byte } => {
-            let ds = with_digit(digit, byte, digits);
-            next.digits = ds;
-            next
-        }
-        Command::ReadKey => next,
+        Command::Parameters(settings) => Panel { settings, ..panel },
+        Command::LoadDigit { digit, byte } => Panel {
+            digits: with_digit(digit, byte, panel.digits),
+            ..panel
+        },
+        Command::ReadKey => panel,
     }
 }
 
 // A command applied directly, as a stop applies it.
+#[tactic(auto, unfolding(crate::specs::Commands::applied))]
 pub(crate) fn applied(command: Command, panel: Panel) -> Panel
     ensures { result ≡ C.applied command panel }
 {
@@ -189,11 +160,11 @@ pub(crate) fn applied(command: Command, panel: Panel) -> Panel
 }
 
 // What a panel does by what two bytes mean; an unknown byte 1 has no effect at all.
-pub(crate) fn obeyed(what: Meaning, panel: Panel) -> Panel
+pub(crate) fn obeyed(what: Option<Command>, panel: Panel) -> Panel
     ensures { result ≡ C.obeyed what panel }
 {
     match what {
-        Meaning::Means(command) => applied(command, panel),
-        Meaning::Nothing => panel,
+        Some(command) => applied(command, panel),
+        None => panel,
     }
 }

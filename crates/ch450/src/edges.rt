@@ -4,94 +4,70 @@ ghost use Rattle.base.specs.Bits.{cut};
 ghost use Rattle.ch450.specs.Commands as C;
 ghost use Rattle.ch450.specs.Edges as E;
 
-use crate::commands::Meaning;
-use crate::{Wires, commands};
+use crate::{Command, Wires, commands};
 
 pub(crate) fn scl(sample: u8) -> bool
     ensures { result ≡ E.scl sample }
 {
-    base::field(sample as u16, 0, 1) == 1
+    base::field(u16::from(sample), 0, 1) == 1
 }
 
 pub(crate) fn sda(sample: u8) -> bool
     ensures { result ≡ E.sda sample }
 {
-    base::field(sample as u16, 1, 1) == 1
+    base::field(u16::from(sample), 1, 1) == 1
 }
 
 fn scl_rises(was: u8, now: u8) -> bool
     ensures { result ≡ E.scl_rises was «now» }
 {
-    if scl(was) {
-        return false;
-    }
-    scl(now)
+    !scl(was) && scl(now)
 }
 
 // SCL stays high.
 fn stays_high(was: u8, now: u8) -> bool
     ensures { result ≡ E.stays_high was «now» }
 {
-    if !scl(now) {
-        return false;
-    }
-    scl(was)
+    scl(was) && scl(now)
 }
 
 // SDA falls while SCL stays high: a transfer starts.
 fn starts(was: u8, now: u8) -> bool
     ensures { result ≡ E.starts was «now» }
 {
-    if !stays_high(was, now) {
-        return false;
-    }
-    if sda(was) {
-        return !sda(now);
-    }
-    false
+    stays_high(was, now) && sda(was) && !sda(now)
 }
 
 // SDA rises while SCL stays high: a transfer ends.
 fn stops(was: u8, now: u8) -> bool
     ensures { result ≡ E.stops was «now» }
 {
-    if !stays_high(was, now) {
-        return false;
-    }
-    if sda(was) {
-        return false;
-    }
-    sda(now)
+    stays_high(was, now) && !sda(was) && sda(now)
 }
 
 // SCL rises while a transfer runs: a bit is taken.
 fn takes(wires: Wires, sample: u8) -> bool
     ensures { result ≡ E.takes sample wires }
 {
-    if !wires.running {
-        return false;
-    }
-    scl_rises(wires.levels, sample)
+    wires.running && scl_rises(wires.levels, sample)
 }
 
 // One rise more, up to 20.
 fn one_more(rises: u8) -> u8
     ensures { result ≡ E.one_more rises }
 {
-    if rises < 20 {
-        return rises + 1;
-    }
-    rises
+    if rises < 20 { rises + 1 } else { rises }
 }
 
 // The bits move up one place, the highest of 19 is lost, and SDA is placed at bit 0.
 fn moved_up(bits: u32, sda: bool) -> u32
     ensures { result ≡ E.moved_up bits sda }
 {
-    ((bits & 0x3FFFF) << 1) + (base::bit_value(sda) as u32)
+    ((bits & 0x3FFFF) << 1) + u32::from(sda)
 }
 
 // One sample.
+#[tactic(auto, unfolding(crate::specs::Edges::stepped))]
 pub(crate) fn stepped(wires: Wires, sample: u8) -> Wires
     ensures { result ≡ E.stepped sample wires }
 {
@@ -121,23 +97,16 @@ pub(crate) fn stepped(wires: Wires, sample: u8) -> Wires
     }
     Wires {
         levels: sample,
-        running: wires.running,
-        rises: wires.rises,
-        bits: wires.bits,
+        ..wires
     }
 }
 
 // Whether a sample is a stop after exactly 19 rises since the start.
+#[tactic(auto, unfolding(crate::specs::Edges::completes))]
 pub(crate) fn completes(wires: Wires, sample: u8) -> bool
     ensures { result ≡ E.completes sample wires }
 {
-    if !wires.running {
-        return false;
-    }
-    if wires.rises != 19 {
-        return false;
-    }
-    stops(wires.levels, sample)
+    wires.running && wires.rises == 19 && stops(wires.levels, sample)
 }
 
 // The eight bits that start at a bit.
@@ -163,11 +132,13 @@ pub(crate) fn second_byte(wires: Wires) -> u8
 }
 
 // What a sample makes the panel do.
-pub(crate) fn told_at(wires: Wires, sample: u8) -> Meaning
+#[tactic(auto, unfolding(crate::specs::Commands::told_at))]
+pub(crate) fn told_at(wires: Wires, sample: u8) -> Option<Command>
     ensures { result ≡ C.told_at sample wires }
 {
-    if !completes(wires, sample) {
-        return Meaning::Nothing;
+    if completes(wires, sample) {
+        commands::meaning_of(first_byte(wires), second_byte(wires))
+    } else {
+        None
     }
-    commands::meaning_of(first_byte(wires), second_byte(wires))
 }

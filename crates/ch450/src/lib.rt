@@ -4,7 +4,7 @@
 // functions are inner ones: other crates call them, they answer for every record, valid or not, and refuse nothing.
 #![tactic(auto)]
 
-use base::{Refusal, Verdict};
+use base::{Handed, Refusal};
 
 pub mod commands;
 mod edges;
@@ -12,6 +12,7 @@ pub mod play;
 pub mod writer;
 
 ghost use Rattle.std.specs.Prelude.{◌≡◌};
+ghost use Rattle.base.specs.Refusals.{handed};
 ghost use Rattle.ch450.specs.Entries as E;
 ghost use Rattle.ch450.specs.Panel as P;
 
@@ -53,20 +54,6 @@ pub enum Command {
     ReadKey,
 }
 
-// A panel handed back, and whether it was refused.
-#[derive(Clone, Copy)]
-pub struct HandedPanel {
-    pub panel: Panel,
-    pub answer: Verdict,
-}
-
-// The segments lit of DIG2 to DIG7, zeros where refused.
-#[derive(Clone, Copy)]
-pub struct Lit {
-    pub segments: [u8; 6],
-    pub answer: Verdict,
-}
-
 // A panel at power-on: awake, every parameter 0, the lines idle, and the digits that the caller says.
 pub fn power_on(digits: [u8; 6]) -> Panel
     ensures { result ≡ P.power_on digits }
@@ -92,112 +79,93 @@ pub fn power_on(digits: [u8; 6]) -> Panel
 fn is_last_bit(levels: u8, bits: u32) -> bool
     ensures { result ≡ P.last_bit levels bits }
 {
-    if !edges::scl(levels) {
-        return true;
-    }
-    if edges::sda(levels) {
-        return bits % 2 == 1;
-    }
-    bits % 2 == 0
+    !edges::scl(levels) || edges::sda(levels) == (bits % 2 == 1)
 }
 
 // How many bits of so many rises are kept: the last 19.
 fn kept(rises: u8) -> u32
     ensures { result ≡ P.kept_of rises }
 {
-    if rises > 19 {
-        return 19;
-    }
-    rises as u32
+    u32::from(rises.min(19))
 }
 
 // Whether a running transfer is one that a run can hold.
+#[tactic(auto, unfolding(crate::specs::Panel::valid_transfer))]
 fn is_transfer(wires: Wires) -> bool
     ensures { result ≡ P.valid_transfer wires }
 {
-    if wires.rises > 20 {
-        return false;
-    }
-    if wires.bits >= 1 << kept(wires.rises) {
-        return false;
-    }
-    is_last_bit(wires.levels, wires.bits)
+    wires.rises <= 20
+        && wires.bits < 1 << kept(wires.rises)
+        && is_last_bit(wires.levels, wires.bits)
 }
 
 // Whether wires are such as a run can hold.
+#[tactic(auto, unfolding(crate::specs::Panel::valid_wires))]
 fn is_wires(wires: Wires) -> bool
     ensures { result ≡ P.valid_wires wires }
 {
-    if wires.levels > 3 {
-        return false;
-    }
-    if wires.running {
-        return is_transfer(wires);
-    }
-    if wires.rises > 0 {
-        return false;
-    }
-    wires.bits == 0
+    let is_held = if wires.running {
+        is_transfer(wires)
+    } else {
+        wires.rises == 0 && wires.bits == 0
+    };
+    wires.levels <= 3 && is_held
 }
 
 // Whether a record is one that a run can hold: every part is.
+#[tactic(auto, unfolding(crate::specs::Panel::valid))]
 pub(crate) fn is_valid(panel: Panel) -> bool
     ensures { result ≡ P.valid panel }
 {
-    let wires = panel.wires;
-    if !is_wires(wires) {
-        return false;
-    }
-    panel.settings.intens <= 3
+    is_wires(panel.wires) && panel.settings.intens <= 3
 }
 
 // A command applied directly, as a stop applies it: refusals 12, 9.
-pub fn apply(panel: Panel, command: Command) -> HandedPanel
-    ensures { E.handed_panel result ≡ E.applied_of panel command }
+pub fn apply(panel: Panel, command: Command) -> Handed<Panel, ()>
+    ensures { handed result ≡ E.applied_of panel command }
 {
     if !is_valid(panel) {
-        return HandedPanel {
-            panel,
-            answer: Verdict::Refused(Refusal::Record),
+        return Handed {
+            value: panel,
+            answer: Err(Refusal::Record),
         };
     }
     if !commands::is_legal(command) {
-        return HandedPanel {
-            panel,
-            answer: Verdict::Refused(Refusal::Field(0)),
+        return Handed {
+            value: panel,
+            answer: Err(Refusal::Field(0)),
         };
     }
-    HandedPanel {
-        panel: commands::applied(command, panel),
-        answer: Verdict::Done,
+    Handed {
+        value: commands::applied(command, panel),
+        answer: Ok(()),
     }
 }
 
 // The segments that shine: none while the panel is asleep or DISP is off, else the data bytes.
+#[tactic(auto, unfolding(crate::specs::Panel::lit_of))]
 pub fn shining(panel: Panel) -> [u8; 6]
     ensures { result ≡ P.lit_of panel }
 {
-    if panel.settings.sleep {
-        return [0; 6];
+    if panel.settings.disp && !panel.settings.sleep {
+        panel.digits
+    } else {
+        [0; 6]
     }
-    if panel.settings.disp {
-        return panel.digits;
-    }
-    [0; 6]
 }
 
 // The segments lit of all six digits: refusal 12.
-pub fn segments_lit(panel: Panel) -> Lit
-    ensures { E.handed_lit result ≡ E.segments_of panel }
+pub fn segments_lit(panel: Panel) -> Handed<[u8; 6], ()>
+    ensures { handed result ≡ E.segments_of panel }
 {
     if !is_valid(panel) {
-        return Lit {
-            segments: [0; 6],
-            answer: Verdict::Refused(Refusal::Record),
+        return Handed {
+            value: [0; 6],
+            answer: Err(Refusal::Record),
         };
     }
-    Lit {
-        segments: shining(panel),
-        answer: Verdict::Done,
+    Handed {
+        value: shining(panel),
+        answer: Ok(()),
     }
 }

@@ -1,19 +1,18 @@
 // Playing samples. A sample that completes no command touches the wires alone.
 ghost use Rattle.std.specs.Prelude.{◌≡◌, drop};
-ghost use Rattle.base.specs.Refusals.{verdict_tells};
+ghost use Rattle.base.specs.Refusals.{tells, handed};
 ghost use Rattle.ch450.specs.Entries as E;
 ghost use Rattle.ch450.specs.Samples as S;
 ghost use Rattle.ch450.specs.Stretch as T;
 
-use crate::commands::Meaning;
-use crate::{Panel, commands, edges};
-use base::{Refusal, Verdict};
+use crate::{Command, Panel, commands, edges};
+use base::{Handed, Refusal};
 
 // The bytes of a transfer that a stop completed.
 #[derive(Clone, Copy)]
-pub enum Transfer {
-    Bytes { first: u8, second: u8 },
-    Nothing,
+pub struct Transfer {
+    pub first: u8,
+    pub second: u8,
 }
 
 // Samples played up to and with a stop that completes a transfer: the panel after them, the place past the last of them, and the
@@ -22,41 +21,7 @@ pub enum Transfer {
 pub struct Stretch {
     pub panel: Panel,
     pub stop: usize,
-    pub transfer: Transfer,
-}
-
-// What a sample answers: the key's code, where the key is read.
-#[derive(Clone, Copy)]
-pub enum Reading {
-    Nothing,
-    Code(u8),
-}
-
-#[derive(Clone, Copy)]
-pub enum SampleAnswer {
-    Took(Reading),
-    Refused(Refusal),
-}
-
-// A panel after a sample, and what it answered.
-#[derive(Clone, Copy)]
-pub struct Sampled {
-    pub panel: Panel,
-    pub answer: SampleAnswer,
-}
-
-// How many times the key was read.
-#[derive(Clone, Copy)]
-pub enum PlayAnswer {
-    Reads(usize),
-    Refused(Refusal),
-}
-
-// A panel after a block of samples, and what it answered.
-#[derive(Clone, Copy)]
-pub struct Played {
-    pub panel: Panel,
-    pub answer: PlayAnswer,
+    pub transfer: Option<Transfer>,
 }
 
 // All samples played, and how many times the key was read.
@@ -67,15 +32,13 @@ pub(crate) struct Run {
 }
 
 // One sample.
+#[tactic(auto, unfolding(crate::specs::Samples::stepped_panel))]
 pub(crate) fn stepped(panel: Panel, sample: u8) -> Panel
     ensures { result ≡ S.stepped_panel sample panel }
 {
-    let wires = panel.wires;
-    let what = edges::told_at(wires, sample);
-    let moved = edges::stepped(wires, sample);
-    let mut next = panel;
-    next.wires = moved;
-    commands::obeyed(what, next)
+    let what = edges::told_at(panel.wires, sample);
+    let wires = edges::stepped(panel.wires, sample);
+    commands::obeyed(what, Panel { wires, ..panel })
 }
 
 // Plays samples from a place on, up to and with the next stop that completes a transfer, or to their end: no tests, for any panel
@@ -83,45 +46,36 @@ pub(crate) fn stepped(panel: Panel, sample: u8) -> Panel
 pub fn to_next_transfer(panel: Panel, samples: &[u8], from: usize) -> Stretch
     ensures { result ≡ T.stretch_from from (drop from samples.now) panel }
 {
-    let mut next = panel;
-    let mut i = from;
-    while i < samples.len() {
+    let mut wires = panel.wires;
+    for i in from..samples.len() {
         let s = samples[i];
-        let wires = next.wires;
-        i += 1;
         if edges::completes(wires, s) {
             return Stretch {
-                panel: stepped(next, s),
-                stop: i,
-                transfer: Transfer::Bytes {
+                panel: stepped(Panel { wires, ..panel }, s),
+                stop: i + 1,
+                transfer: Some(Transfer {
                     first: edges::first_byte(wires),
                     second: edges::second_byte(wires),
-                },
+                }),
             };
         }
-        let moved = edges::stepped(wires, s);
-        next.wires = moved;
+        wires = edges::stepped(wires, s);
     }
     Stretch {
-        panel: next,
-        stop: i,
-        transfer: Transfer::Nothing,
+        panel: Panel { wires, ..panel },
+        stop: from.max(samples.len()),
+        transfer: None,
     }
 }
 
 // 1 where a transfer read the key.
-fn read_by(transfer: Transfer) -> usize
+fn read_by(transfer: Option<Transfer>) -> usize
     ensures { result ≡ T.read_by transfer }
 {
-    match transfer {
-        Transfer::Bytes { first, second } => {
-            if commands::is_read(commands::meaning_of(first, second)) {
-                return 1;
-            }
-            0
-        }
-        Transfer::Nothing => 0,
-    }
+    let Some(Transfer { first, second }) = transfer else {
+        return 0;
+    };
+    usize::from(commands::is_read(commands::meaning_of(first, second)))
 }
 
 // All samples, one stretch after another.
@@ -131,106 +85,85 @@ fn all_played(panel: Panel, samples: &[u8]) -> Run
     let mut next = panel;
     let mut reads = 0;
     let mut i = 0;
+    // the step is as long as a stretch, so no iterator counts it
     while i < samples.len() {
         let part = to_next_transfer(next, samples, i);
-        let after = part.panel;
-        let transfer = part.transfer;
-        next = after;
-        reads += read_by(transfer);
+        next = part.panel;
+        reads += read_by(part.transfer);
         i = part.stop;
     }
     Run { panel: next, reads }
 }
 
 // Refusal 1's test: the lowest place of a sample above 3.
-pub fn checked(samples: &[u8]) -> Verdict
-    ensures { verdict_tells result ≡ E.checked_from 0 samples.now }
+#[tactic(auto, unfolding(crate::specs::Entries::checked_from))]
+pub fn checked(samples: &[u8]) -> Result<(), Refusal>
+    ensures { tells result ≡ E.checked_from 0 samples.now }
 {
-    let mut i = 0;
-    while i < samples.len() {
-        if samples[i] > 3 {
-            return Verdict::Refused(Refusal::Sample(i as u64));
-        }
-        i += 1;
-    }
-    Verdict::Done
+    base::checked(samples, 3)
 }
 
 // The tests that come first: refusals 12, 9.
-fn tested(panel: Panel, key: u8) -> Verdict
-    ensures { verdict_tells result ≡ E.tested_of panel key }
+fn tested(panel: Panel, key: u8) -> Result<(), Refusal>
+    ensures { tells result ≡ E.tested_of panel key }
 {
     if !crate::is_valid(panel) {
-        return Verdict::Refused(Refusal::Record);
+        return Err(Refusal::Record);
     }
     if key > 127 {
-        return Verdict::Refused(Refusal::Field(0));
+        return Err(Refusal::Field(0));
     }
-    Verdict::Done
+    Ok(())
 }
 
 // The key's code, where the key is read.
-fn code_read(key: u8, what: Meaning) -> Reading
-    ensures { E.answered_of result ≡ E.answer_to key what }
+fn code_read(key: u8, what: Option<Command>) -> Option<u8>
+    ensures { result ≡ E.answer_to key what }
 {
-    if commands::is_read(what) {
-        return Reading::Code(key);
-    }
-    Reading::Nothing
+    commands::is_read(what).then_some(key)
 }
 
 // One sample, with the code of the key: refusals 12, 9, 1.
-pub fn sample(panel: Panel, key: u8, sample: u8) -> Sampled
-    ensures { E.handed_sample result ≡ E.sampled_of panel key sample }
+pub fn sample(panel: Panel, key: u8, sample: u8) -> Handed<Panel, Option<u8>>
+    ensures { handed result ≡ E.sampled_of panel key sample }
 {
-    let test = tested(panel, key);
-    match test {
-        Verdict::Refused(e) => Sampled {
-            panel,
-            answer: SampleAnswer::Refused(e),
-        },
-        Verdict::Done => {
-            if sample > 3 {
-                return Sampled {
-                    panel,
-                    answer: SampleAnswer::Refused(Refusal::Sample(0)),
-                };
-            }
-            let wires = panel.wires;
-            Sampled {
-                panel: stepped(panel, sample),
-                answer: SampleAnswer::Took(code_read(key, edges::told_at(wires, sample))),
-            }
-        }
+    if let Err(e) = tested(panel, key) {
+        return Handed {
+            value: panel,
+            answer: Err(e),
+        };
+    }
+    if sample > 3 {
+        return Handed {
+            value: panel,
+            answer: Err(Refusal::Sample(0)),
+        };
+    }
+    Handed {
+        value: stepped(panel, sample),
+        answer: Ok(code_read(key, edges::told_at(panel.wires, sample))),
     }
 }
 
 // A block of samples, with the code of the key: refusals 12, 9, 1. All samples are tested before any is played.
-pub fn play(panel: Panel, key: u8, samples: &[u8]) -> Played
-    ensures { E.handed_play result ≡ E.played_of panel key samples.now }
+pub fn play(panel: Panel, key: u8, samples: &[u8]) -> Handed<Panel, usize>
+    ensures { handed result ≡ E.played_of panel key samples.now }
 {
-    let first = tested(panel, key);
-    match first {
-        Verdict::Refused(e) => Played {
-            panel,
-            answer: PlayAnswer::Refused(e),
-        },
-        Verdict::Done => {
-            let second = checked(samples);
-            match second {
-                Verdict::Refused(e) => Played {
-                    panel,
-                    answer: PlayAnswer::Refused(e),
-                },
-                Verdict::Done => {
-                    let run = all_played(panel, samples);
-                    let after = run.panel;
-                    Played {
-                        panel: after,
-                        answer: PlayAnswer::Reads(run.reads),
-                    }
-                }
-            }
-        }
+    if let Err(e) = tested(panel, key) {
+        return Handed {
+            value: panel,
+            answer: Err(e),
+        };
+    }
+    if let Err(e) = checked(samples) {
+        return Handed {
+            value: panel,
+            answer: Err(e),
+        };
+    }
+    let run = all_played(panel, samples);
+    Handed {
+        value: run.panel,
+        answer: Ok(run.reads),
     }
 }

@@ -15,15 +15,12 @@
 use mathlib.Core.Path.{◌≡◌, refl, ap, ap₂, sym, ◌∙◌}
 use mathlib.Core.Bool.{Bool, false}
 use mathlib.Core.List.{List, [], ◌∷◌, ◌++◌, map, head-eq_of_cons-eq, tail-eq_of_cons-eq, nil≢cons}
-use Prim.Native.Nat.{ℕ, zero, suc, suc-le-suc}
+use Prim.Native.Nat.{ℕ, zero, suc}
 use native.Mathlib.Nat.{le_of_suc-le-suc}
-use native.Mathlib.Omega.{arith}
-use borrow.Author.Tests.{leb-true, le-leb}
 use lib.Dec.{T, leb, le→leb}
 use lib.ListN.{drop}
 use lib.Seq.{get_or-set_other}
 use Rattle.base.specs.Refusals.{done}
-use Rattle.base.proofs.Picks.{pick_yes, pick_cases}
 use Rattle.base.proofs.Tests.{and_left, and_right, and_both}
 use Rattle.chip.specs.declared.Chip.{Chip}
 use Rattle.chip.specs.Record.{Body, body_of, valid, reset_chip}
@@ -32,6 +29,7 @@ use Rattle.chip.specs.Edges.{load_rises, din, stepped}
 use Rattle.chip.proofs.Quiet.{quiet}
 use Rattle.chip.proofs.Valid.{stepped_valid}
 use Rattle.chain.specs.declared.Chain.{Chain}
+use Rattle.base.proofs.Samples as Samples
 use Rattle.chain.specs.Chain.{all_valid, valid_chain, checked_from, stepped_row, stepped_chain, played, KeypadLast}
 use Rattle.chain.specs.Entries.{chip_at, with_chip}
 use Rattle.base.specs.Below.{AllBelow}
@@ -70,17 +68,11 @@ played_rest n (s ∷ ss) ch = played_rest n ss (stepped_chain n s ch) ∙ row_re
 
 pub checked_below : (place : ℕ) (ss : List ℕ) → checked_from place ss ≡ done tt → AllBelow 8 ss
 unfolding checked_from
-checked_below place [] e = tt
-checked_below place (s ∷ ss) e =
-    pick_cases (λ x. x ≡ done tt → AllBelow 8 (s ∷ ss)) (leb s 7)
-    (λ h c. (suc-le-suc (leb-true s 7 h), checked_below (suc place) ss c))
-    (λ h c. let z : ◌≡◌ {A = ℕ} 0 1 = cc in absurd (omega arith))
-    e
+checked_below = Samples.checked_below 7
 
 pub below_checked : (place : ℕ) (ss : List ℕ) → AllBelow 8 ss → checked_from place ss ≡ done tt
 unfolding checked_from
-below_checked place [] a = refl
-below_checked place (s ∷ ss) a = pick_yes _ _ (le-leb s 7 (le_of_suc-le-suc a.0)) ∙ below_checked (suc place) ss a.1
+below_checked = Samples.below_checked 7
 
 pub row_valid : (n was now : ℕ) (d : Bool) (cs : List Chip) → T (all_valid n cs) → T (all_valid n (stepped_row n was now d cs))
 unfolding stepped_row all_valid

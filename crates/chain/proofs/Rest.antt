@@ -1,65 +1,38 @@
 -- What is left of a list: each definition by recursion on a list, seen from a place in its middle. A loop's invariant says that
 -- the definition on the rest, with what was done before it, is the definition on the whole.
---     check_more, check_over     refusal 1's test
---     all_more, all_over         refusal 12's test of the records
---     row_more, row_over         one sample for the first n chips; row_length, that it keeps their number
+--     valid_front                refusal 12's test of the records, of each of the first n
+--     row_more, row_done         one sample for the first n chips; row_length, that it keeps their number
 --     play_more, play_over       a block of samples
 --     rise_more, rise_over       the next LOAD rise
 -- Assumes nothing.
 use mathlib.Core.Path.{◌≡◌, refl, ap, ap₂, sym, ◌∙◌}
-use mathlib.Core.Bool.{Bool, true, ◌&&◌}
+use mathlib.Core.Bool.{Bool, ◌&&◌}
 use mathlib.Core.List.{List, [], ◌∷◌, ◌++◌, append_assoc}
 use Prim.Native.Nat.{ℕ, zero, suc, ◌+◌, ◌-◌, ◌≤◌, ◌<◌}
 use native.Mathlib.Numerals.{add-one}
 use native.Mathlib.Omega.{arith}
-use lib.Dec.{leb}
-use lib.ListN.{length, get_or, set, take, drop, take-append-drop, drop_of_length-le}
+use Rattle.std.proofs.Common.{append-nil}
+use Rattle.std.proofs.lemmas.List.{take_all}
+use Rattle.std.specs.List.{list_all}
+use lib.ListN.{length, get_or, set, take, drop, drop_of_length-le}
 use lib.Seq.{drop-cons, take-suc-set, drop-set-lt}
 use Rattle.base.specs.Pick.{pick}
-use Rattle.base.specs.Refusals.{done, refused}
 use Rattle.base.proofs.Lists.{rest_is}
 use Rattle.chip.specs.declared.Chip.{Chip}
 use Rattle.chip.specs.Record.{valid}
 use Rattle.chip.specs.Commands.{dout}
 use Rattle.chip.specs.Edges.{load_rises, stepped}
 use Rattle.chain.specs.declared.Chain.{Chain}
-use Rattle.chain.specs.Chain.{all_valid, checked_from, stepped_row, stepped_chain, played}
+use Rattle.chain.specs.Chain.{all_valid, stepped_row, stepped_chain, played}
 use Rattle.chain.specs.Finder.{rise_at, no_rise, rise_from}
-
--- one fewer is left
-one_fewer : (n k : ℕ) → k < n → n - k ≡ suc (n - (k + 1))
-one_fewer n k h = omega arith
-
-none_left : (n k : ℕ) → n ≤ k → n - k ≡ 0
-none_left n k h = omega arith
-
--- ---- refusal 1's test
-
-pub check_more : (ss : List ℕ) (i : ℕ) → i < length ss
-    → checked_from i (drop i ss) ≡ pick (leb (get_or ss i 0) 7) (checked_from (i + 1) (drop (i + 1) ss)) (refused 1 i)
-unfolding checked_from
-check_more ss i h =
-    ap (checked_from i) (rest_is ss i 0 h)
-    ∙ ap (λ n. pick (leb (get_or ss i 0) 7) (checked_from n (drop (i + 1) ss)) (refused 1 i)) (sym (add-one i))
-
-pub check_over : (ss : List ℕ) (i : ℕ) → length ss ≤ i → checked_from i (drop i ss) ≡ done tt
-unfolding checked_from
-check_over ss i h = ap (checked_from i) (drop_of_length-le ss h)
 
 -- ---- refusal 12's test of the records
 
-pub all_more : (n k : ℕ) (cs : List Chip) (d : Chip) → k < n → k < length cs
-    → all_valid (n - k) (drop k cs) ≡ (valid (get_or cs k d) && all_valid (n - (k + 1)) (drop (k + 1) cs))
+pub valid_front : (n : ℕ) (cs : List Chip) → all_valid n cs ≡ list_all valid (take n cs)
 unfolding all_valid
-all_more n k cs d h l = ap₂ all_valid (one_fewer n k h) (rest_is cs k d l)
-
-pub all_over : (n k : ℕ) (cs : List Chip) → n ≤ k → all_valid (n - k) (drop k cs) ≡ true
-unfolding all_valid
-all_over n k cs h = ap (λ m. all_valid m (drop k cs)) (none_left n k h)
-
-pub all_past : (n k : ℕ) (cs : List Chip) → k < n → length cs ≤ k → all_valid (n - k) (drop k cs) ≡ true
-unfolding all_valid
-all_past n k cs h l = ap₂ all_valid (one_fewer n k h) (drop_of_length-le cs l)
+valid_front zero cs = refl
+valid_front (suc n) [] = refl
+valid_front (suc n) (c ∷ cs) = ap (λ t. valid c && t) (valid_front n cs)
 
 -- ---- one sample for the first n chips
 
@@ -81,9 +54,26 @@ row_more n k was now b out cs c x h l o e =
     fewer : n - k ≡ suc (n - suc k)
     fewer = omega arith
 
-pub row_over : (n k was now : ℕ) (b : Bool) (cs : List Chip) → n ≤ k → take k cs ++ stepped_row (n - k) was now b (drop k cs) ≡ cs
+row_none : (n was now : ℕ) (b : Bool) → stepped_row n was now b [] ≡ []
 unfolding stepped_row
-row_over n k was now b cs h = ap (λ m. take k cs ++ stepped_row m was now b (drop k cs)) (none_left n k h) ∙ take-append-drop k cs
+row_none zero was now b = refl
+row_none (suc n) was now b = refl
+
+row_over : (n k was now : ℕ) (b : Bool) (cs : List Chip) → length cs ≤ k → take k cs ++ stepped_row n was now b (drop k cs) ≡ cs
+row_over n k was now b cs h =
+    ap (λ r. take k cs ++ stepped_row n was now b r) (drop_of_length-le cs h) ∙ rw (row_none, append-nil, take_all k cs h) refl
+
+row_front : (n was now : ℕ) (b : Bool) (cs : List Chip) → stepped_row n was now b (take n cs) ++ drop n cs ≡ stepped_row n was now b cs
+unfolding stepped_row
+row_front zero was now b cs = refl
+row_front (suc n) was now b [] = refl
+row_front (suc n) was now b (c ∷ cs) = ap (λ r. stepped was now b c ∷ r) (row_front n was now (dout c) cs)
+
+pub row_done : (n k was now : ℕ) (b d : Bool) (cs front : List Chip) → length front ≡ length (take n cs) → length (take n cs) ≤ k
+    → take k front ++ stepped_row (n - k) was now b (drop k front) ≡ stepped_row n was now d (take n cs)
+    → front ++ drop n cs ≡ stepped_row n was now d cs
+row_done n k was now b d cs front size past row =
+    ap (λ r. r ++ drop n cs) (sym (row_over (n - k) k was now b front (omega arith)) ∙ row) ∙ row_front n was now d cs
 
 pub row_length : (n was now : ℕ) (b : Bool) (cs : List Chip) → length (stepped_row n was now b cs) ≡ length cs
 unfolding stepped_row

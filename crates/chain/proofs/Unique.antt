@@ -3,20 +3,10 @@
 -- Assumes nothing.
 use mathlib.Core.Path.{◌≡◌, refl, ap, sym, ◌∙◌}
 use Prim.Native.Nat.{ℕ}
-use Rattle.base.specs.Refusals.{Told, done, refused, Outcome}
 use Rattle.base.specs.Unique.{AllowsOne}
-use Rattle.base.proofs.Refusals.{refusal_of, refusal_back}
-use Rattle.base.proofs.Unique.{same_answer, same_verdict}
-use Rattle.chip.proofs.Unique.{same_scan_answer, same_taken, same_lit}
-use Rattle.chain.specs.declared.Chain.{Chain}
-use Rattle.chain.specs.declared.HandedChain.{HandedChain}
-use Rattle.chain.specs.declared.blocks.Rises.{Rises}
-use Rattle.chain.specs.declared.blocks.Rises.TheVariants as Counted
-use Rattle.chain.specs.declared.finder.Rise.{Rise}
-use Rattle.chain.specs.declared.finder.Rise.TheVariants as Next
-use Rattle.chain.specs.Blocks.{rises_tell}
+use Rattle.base.proofs.Unique.{same_answer, same_result, same_told, same_handed}
+use Rattle.chip.proofs.Unique.{same_scan, same_taken}
 use Rattle.chain.specs.Finder.{NextRise, rise_at, no_rise, next_rise_of}
-use Rattle.chain.specs.Entries.{handed_chain}
 use Rattle.chain.proofs.start
 use Rattle.chain.proofs.host_sees
 use Rattle.chain.proofs.play
@@ -24,66 +14,46 @@ use Rattle.chain.proofs.blocks
 use Rattle.chain.proofs.one
 use Rattle.chain.proofs.finder
 use Rattle.chain.proofs.checks
+use Rattle.std.specs.declared.option.Option.{Option}
+use Rattle.std.specs.declared.option.Option.TheVariants.{Some, None}
 
-handed_same : {x : Outcome Chain (Unit {0})} (r s : HandedChain) → handed_chain r ≡ x → handed_chain s ≡ x → r ≡ s
-handed_same r s p q =
-    let e = same_answer p q in
-    λ i. record { chain = ap (λ o. o.state) e i; answer = same_verdict {v = r.answer} {w = s.answer} (ap (λ o. o.told) e) i }
+rise_of : NextRise → (Option ℕ)
+rise_of (rise_at place) = Some place
+rise_of no_rise = None
 
-rise_of : NextRise → Rise
-rise_of (rise_at place) = Next.At place
-rise_of no_rise = Next.Nothing
-
-rise_back : (rise : Rise) → rise_of (next_rise_of rise) ≡ rise
+rise_back : (rise : Option ℕ) → rise_of (next_rise_of rise) ≡ rise
 unfolding rise_of
-rise_back (Next.At place) = refl
-rise_back Next.Nothing = refl
-
-answered : Told ℕ → Rises
-answered (done count) = Counted.Count count
-answered (refused number place) = Counted.Refused (refusal_of number place)
-
-answered_back : (r : Rises) → answered (rises_tell r) ≡ r
-unfolding answered
-answered_back (Counted.Count count) = refl
-answered_back (Counted.Refused e) = ap Counted.Refused (refusal_back e)
+rise_back (Some place) = refl
+rise_back None = refl
 
 -- ---- the entries
 
 pub start_unique : AllowsOne start.Kinds.ps start.Kinds.r start.Reads.Learnt
-start_unique κs a x y last last' p q = (handed_same x y p q, refl)
+start_unique κs a x y last last' p q = (same_handed p q, refl)
 
 pub host_sees_unique : AllowsOne host_sees.Kinds.ps host_sees.Kinds.r host_sees.Reads.Learnt
-host_sees_unique κs a x y last last' p q =
-    let e = same_answer p q in
-    let answer = same_verdict {v = x.answer} {w = y.answer} (ap (λ o. o.told) e) in
-    (λ i. record { level = ap (λ o. o.state) e i; answer = answer i }, refl)
+host_sees_unique κs a x y last last' p q = (same_handed p q, refl)
 
 pub play_unique : AllowsOne play.play.Kinds.ps play.play.Kinds.r play.play.Reads.Learnt
-play_unique κs a x y last last' p q = (handed_same x y p q, refl)
+play_unique κs a x y last last' p q = (same_handed p q, refl)
 
 pub block_unique : AllowsOne blocks.block.Kinds.ps blocks.block.Kinds.r blocks.block.Reads.Learnt
 block_unique κs a x y last last' p q =
-    let e = same_answer p.answer q.answer in
-    let answer = sym (answered_back x.answer) ∙ ap (λ o. answered o.told) e ∙ answered_back y.answer in
-    (λ i. record { chain = ap (λ o. o.state) e i; answer = answer i }, λ i. (tt, (tt, (tt, (same_answer p.places q.places i, tt)))))
+    (same_handed p.answer q.answer, λ i. (tt, (tt, (tt, (same_answer p.places q.places i, tt)))))
 
 pub apply_unique : AllowsOne one.apply.Kinds.ps one.apply.Kinds.r one.apply.Reads.Learnt
-apply_unique κs a x y last last' p q = (handed_same x y p q, refl)
+apply_unique κs a x y last last' p q = (same_handed p q, refl)
 
 pub scan_unique : AllowsOne one.scan.Kinds.ps one.scan.Kinds.r one.scan.Reads.Learnt
-scan_unique κs a x y last last' p q =
-    let e = same_answer p q in
-    let answer = same_scan_answer {a = x.answer} {b = y.answer} (ap (λ o. o.told) e) in
-    (λ i. record { chain = ap (λ o. o.state) e i; answer = answer i }, refl)
+scan_unique κs a x y last last' p q = (same_scan p q, refl)
 
 pub segments_lit_unique : AllowsOne one.segments_lit.Kinds.ps one.segments_lit.Kinds.r one.segments_lit.Reads.Learnt
-segments_lit_unique κs a x y last last' p q = (same_lit x y p q, refl)
+segments_lit_unique κs a x y last last' p q = (same_handed p q, refl)
 
 pub next_rise_unique : AllowsOne finder.next_rise.Kinds.ps finder.next_rise.Kinds.r finder.next_rise.Reads.Learnt
 next_rise_unique κs a x y last last' p q =
     let e = same_answer p q in
-    let answer = same_verdict {v = x.answer} {w = y.answer} (ap (λ o. o.told) e) in
+    let answer = same_result {r = x.answer} {s = y.answer} (ap (λ o. o.told) e) in
     let rise = sym (rise_back x.rise) ∙ ap (λ o. rise_of o.state.rise) e ∙ rise_back y.rise in
     (λ i. record { rise = rise i; passed = ap (λ o. o.state.passed) e i; answer = answer i }, refl)
 
@@ -105,7 +75,7 @@ pub is_count_unique : AllowsOne checks.is_count.Kinds.ps checks.is_count.Kinds.r
 is_count_unique κs a x y last last' p q = (same_answer p q, refl)
 
 pub checked_unique : AllowsOne checks.checked.Kinds.ps checks.checked.Kinds.r checks.checked.Reads.Learnt
-checked_unique κs a x y last last' p q = (same_verdict {v = x} {w = y} (same_answer p q), refl)
+checked_unique κs a x y last last' p q = (same_told p q, refl)
 
 pub tested_unique : AllowsOne checks.tested.Kinds.ps checks.tested.Kinds.r checks.tested.Reads.Learnt
-tested_unique κs a x y last last' p q = (same_verdict {v = x} {w = y} (same_answer p q), refl)
+tested_unique κs a x y last last' p q = (same_told p q, refl)

@@ -3,13 +3,11 @@
 use Rattle.std.specs.Prelude.{◌≡◌, ℕ, suc, List, [], ◌∷◌, leb, length}
 use Rattle.base.specs.Lent.{laid}
 use Rattle.base.specs.Pick.{pick}
-use Rattle.base.specs.Refusals.{Told, done, refused, refused_by, Outcome, hands_back, once_tested}
+use Rattle.base.specs.Refusals.{Told, done, refused, Outcome, hands_back, once_tested, handed}
 use Rattle.chip.specs.Edges.{load_rises}
 use Rattle.chain.specs.declared.Chain.{Chain}
-use Rattle.chain.specs.declared.blocks.Rises.{Rises}
-use Rattle.chain.specs.declared.blocks.Rises.TheVariants.{Count, Refused}
-use Rattle.chain.specs.declared.blocks.AfterBlock.{AfterBlock}
 use Rattle.chain.specs.Chain.{tested_of, checked_from, played}
+use Rattle.base.specs.declared.Handed.{Handed}
 
 -- the places of the LOAD rises, given the first sample's place and the levels before it
 unfoldable pub rises_from : ℕ → ℕ → List ℕ → List ℕ
@@ -19,15 +17,6 @@ rises_from place was (s ∷ ss) = pick (load_rises was s) (place ∷ rises_from 
 -- the places in a block, from 0, given the record before it
 abbrev pub rises_in : Chain → List ℕ → List ℕ
 rises_in ch ss = rises_from 0 ch.levels ss
-
--- what the answer tells
-abbrev pub rises_tell : Rises → Told ℕ
-rises_tell (Count count) = done count
-rises_tell (Refused e) = refused_by e
-
--- a block handed back: the record, and how many rises it had
-abbrev pub handed_block : AfterBlock → Outcome Chain ℕ
-handed_block r = record { state = r.chain; told = rises_tell r.answer }
 
 -- a block of samples: refusals 3, 12, 1, and 8 where the list is shorter than the rises; refused, the record is as it was
 unfoldable pub block_of : ℕ → Chain → List ℕ → List ℕ → Outcome Chain ℕ
@@ -48,6 +37,6 @@ abbrev pub list_of : ℕ → Chain → List ℕ → List ℕ → List ℕ
 list_of n ch ss list = list_by (block_of n ch ss list).told (rises_in ch ss) list
 
 -- what `block` does: the record and its answer, and the list after it
-pub record Blocks (n : ℕ) (ch : Chain) (ss list : List ℕ) (r : AfterBlock) (list' : List ℕ) : Type 0 where
-  pub answer : handed_block r ≡ block_of n ch ss list
+pub record Blocks (n : ℕ) (ch : Chain) (ss list : List ℕ) (r : Handed Chain ℕ) (list' : List ℕ) : Type 0 where
+  pub answer : handed r ≡ block_of n ch ss list
   pub places : list' ≡ list_of n ch ss list

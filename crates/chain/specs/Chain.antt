@@ -1,8 +1,9 @@
 -- Document 01, "The panel" and "Samples and edges": a chain of chips, what one sample does to it, and what a block does.
 -- Assumes nothing.
-use Rattle.std.specs.Prelude.{◌≡◌, ℕ, zero, suc, Bool, true, false, ◌&&◌, List, [], ◌∷◌, leb}
+use Rattle.std.specs.Prelude.{◌≡◌, ℕ, zero, suc, Bool, true, false, ◌&&◌, List, [], ◌∷◌, leb, ltb}
 use Rattle.base.specs.Pick.{pick}
-use Rattle.base.specs.Refusals.{Told, done, refused}
+use Rattle.base.specs.Refusals.{Told, done, refused, then_tested}
+use Rattle.base.specs.Samples as Samples
 use Rattle.chip.specs.declared.Chip.{Chip}
 use Rattle.chip.specs.Record.{valid}
 use Rattle.chip.specs.Commands.{dout}
@@ -33,8 +34,15 @@ tested_of n ch = pick (chip_count n) (pick (valid_chain n ch) (done tt) (refused
 
 -- refusal 1's test, by the lowest place of a sample above 7
 unfoldable pub checked_from : ℕ → List ℕ → Told (Unit {0})
-checked_from place [] = done tt
-checked_from place (s ∷ ss) = pick (leb s 7) (checked_from (suc place) ss) (refused 1 place)
+checked_from place ss = Samples.checked_from 7 place ss
+
+-- the tests of an entry that names a chip: refusals 3, 12, 2
+abbrev pub tested_at : ℕ → Chain → ℕ → Told (Unit {0})
+tested_at n ch k = then_tested (tested_of n ch) (pick (ltb k n) (done tt) (refused 2 0))
+
+-- the tests of an entry that plays samples: refusals 3, 12, 1
+abbrev pub tested_with : ℕ → Chain → List ℕ → Told (Unit {0})
+tested_with n ch ss = then_tested (tested_of n ch) (checked_from 0 ss)
 
 -- one sample for the first n chips: the first takes what is given as DIN, each other what the DOUT before it showed before
 -- this sample; records from n on stay

@@ -2,26 +2,17 @@
 -- Assumes nothing.
 use Rattle.std.specs.Prelude.{ℕ, ◌-◌, Bool, false, List, ltb, get_or, set, replicate}
 use Rattle.base.specs.Pick.{pick}
-use Rattle.base.specs.Refusals.{done, Outcome, hands_back, verdict_tells, once_tested}
+use Rattle.base.specs.Refusals.{done, Outcome, hands_back, once_tested}
 use Rattle.word.specs.declared.Command.{Command}
 use Rattle.word.specs.Words.{legal}
 use Rattle.chip.specs.declared.Chip.{Chip}
-use Rattle.chip.specs.declared.Lit.{Lit}
 use Rattle.chip.specs.Record.{blank, reset_settings, reset_chip}
 use Rattle.chip.specs.Commands.{applied, dout}
 use Rattle.chip.specs.Edges.{idle}
 use Rattle.chip.specs.Scans.{Recording, scanned, recorded}
 use Rattle.chip.specs.Segments.{lit_of}
-use Rattle.chip.specs.Entries as One
 use Rattle.chain.specs.declared.Chain.{Chain}
-use Rattle.chain.specs.declared.HandedChain.{HandedChain}
-use Rattle.chain.specs.declared.Seen.{Seen}
-use Rattle.chain.specs.declared.one.Scanned.{Scanned}
 use Rattle.chain.specs.Chain.{most, chip_count, checked_from, tested_of, played}
-
--- a chain handed back
-abbrev pub handed_chain : HandedChain → Outcome Chain (Unit {0})
-handed_chain r = record { state = r.chain; told = verdict_tells r.answer }
 
 -- ---- start
 
@@ -61,9 +52,6 @@ chip_at k ch = get_or ch.chips k reset_chip
 abbrev pub with_chip : ℕ → Chip → Chain → Chain
 with_chip k c ch = record { chips = set ch.chips k c; levels = ch.levels }
 
-abbrev pub handed_scan : Scanned → Outcome Chain Recording
-handed_scan r = record { state = r.chain; told = One.scan_tells r.answer }
-
 -- one scan: refusals 3, 12, 2
 unfoldable pub scanned_of : ℕ → Chain → ℕ → List ℕ → Outcome Chain Recording
 scanned_of n ch k bytes =
@@ -80,9 +68,6 @@ applied_of n ch k command =
     (pick (ltb k n) (record { state = with_chip k (applied command (chip_at k ch)) ch; told = done tt }) (hands_back ch 2 0))
     (hands_back ch 9 0))
 
-abbrev pub handed_lit : Lit → Outcome (List ℕ) (Unit {0})
-handed_lit r = One.handed_lit r
-
 -- the segments lit: refusals 3, 12, 2
 unfoldable pub segments_of : ℕ → Chain → ℕ → Outcome (List ℕ) (Unit {0})
 segments_of n ch k =
@@ -90,9 +75,6 @@ segments_of n ch k =
     (pick (ltb k n) (record { state = lit_of (chip_at k ch); told = done tt }) (hands_back blank 2 0))
 
 -- ---- what the host sees
-
-abbrev pub handed_seen : Seen → Outcome Bool (Unit {0})
-handed_seen r = record { state = r.level; told = verdict_tells r.answer }
 
 -- the last chip's DOUT: refusals 3, 12
 unfoldable pub seen_of : ℕ → Chain → Outcome Bool (Unit {0})

@@ -2,13 +2,13 @@
 -- Assumes nothing.
 use Rattle.std.specs.Prelude.{ℕ, suc, ◌+◌, List, [], ◌∷◌, leb, length}
 use Rattle.base.specs.Pick.{pick}
-use Rattle.base.specs.Refusals.{Told, done, refused, Outcome, hands_back, verdict_tells}
+use Rattle.base.specs.Refusals.{Told, done, refused, Outcome, hands_back, tells}
 use Rattle.chip.specs.Edges.{load_rises}
-use Rattle.chain.specs.declared.finder.Rise.{Rise}
-use Rattle.chain.specs.declared.finder.Rise.TheVariants.{At, Nothing}
 use Rattle.chain.specs.declared.finder.Found.{Found}
 use Rattle.chain.specs.declared.finder.Way.{Way}
 use Rattle.chain.specs.Chain.{checked_from}
+use Rattle.std.specs.declared.option.Option.{Option}
+use Rattle.std.specs.declared.option.Option.TheVariants.{Some, None}
 
 -- where the next LOAD rise stands, by document 01's values: a place, or none
 pub data NextRise : Type 0 where
@@ -16,9 +16,9 @@ pub data NextRise : Type 0 where
   no_rise : NextRise
 
 -- the value of each case of the answer
-abbrev pub next_rise_of : Rise → NextRise
-next_rise_of (At place) = rise_at place
-next_rise_of Nothing = no_rise
+abbrev pub next_rise_of : Option ℕ → NextRise
+next_rise_of (Some place) = rise_at place
+next_rise_of None = no_rise
 
 -- the place of the next LOAD rise, given the levels before
 unfoldable pub rise_from : ℕ → ℕ → List ℕ → NextRise
@@ -45,7 +45,7 @@ looked_of levels samples = record { rise = rise_from 0 levels samples; passed = 
 
 -- the report handed back
 abbrev pub handed_found : Found → Outcome Report (Unit {0})
-handed_found r = record { state = record { rise = next_rise_of r.rise; passed = r.passed }; told = verdict_tells r.answer }
+handed_found r = record { state = record { rise = next_rise_of r.rise; passed = r.passed }; told = tells r.answer }
 
 -- no rise and 0 passed
 abbrev pub no_report : Report

@@ -7,32 +7,15 @@ ghost use Rattle.chain.specs.Blocks as B;
 
 use crate::play::to_next_rise;
 use crate::{Chain, checks};
-use base::{Refusal, Verdict};
-
-// How many LOAD rises a block had, or why it was refused.
-#[derive(Clone, Copy)]
-pub enum Rises {
-    Count(usize),
-    Refused(Refusal),
-}
-
-// The record after a block, and its answer.
-#[derive(Clone, Copy)]
-pub struct AfterBlock {
-    pub chain: Chain,
-    pub answer: Rises,
-}
+use base::{Handed, Refusal};
 
 // How many LOAD rises samples have, given the levels before them.
 fn counted(levels: u8, samples: &[u8]) -> usize
     ensures { result ≡ length (B.rises_from 0 levels samples.now) }
 {
     let mut was = levels;
-    let mut i = 0;
     let mut count = 0;
-    while i < samples.len() {
-        let s = samples[i];
-        i += 1;
+    for &s in samples {
         if chip::edges::load_rises(was, s) {
             count += 1;
         }
@@ -50,14 +33,13 @@ fn listed(n: usize, chain: Chain, samples: &[u8], rises: &mut [u64]) -> Chain
     let mut next = chain;
     let mut i = 0;
     let mut at = 0;
+    // the step is as long as a stretch, so no iterator counts it
     while i < samples.len() {
         let part = to_next_rise(n, next, samples, i);
-        let after = part.chain;
-        let stop = part.stop;
-        next = after;
-        i = stop;
+        next = part.chain;
+        i = part.stop;
         if part.rose {
-            rises[at] = (stop - 1) as u64;
+            rises[at] = (i - 1) as u64;
             at += 1;
         }
     }
@@ -66,36 +48,24 @@ fn listed(n: usize, chain: Chain, samples: &[u8], rises: &mut [u64]) -> Chain
 
 // A block of samples, the places of whose LOAD rises go to the front of the list: refusals 3, 12, 1, 8. Refused: the record and the list
 // as they were.
-pub fn block(n: usize, chain: Chain, samples: &[u8], rises: &mut [u64]) -> AfterBlock
+pub fn block(n: usize, chain: Chain, samples: &[u8], rises: &mut [u64]) -> Handed<Chain, usize>
     ensures { B.Blocks n chain samples.now rises.old result rises.new }
 {
-    let first = checks::tested(n, chain);
-    match first {
-        Verdict::Refused(e) => AfterBlock {
-            chain,
-            answer: Rises::Refused(e),
-        },
-        Verdict::Done => {
-            let second = checks::checked(samples);
-            match second {
-                Verdict::Refused(e) => AfterBlock {
-                    chain,
-                    answer: Rises::Refused(e),
-                },
-                Verdict::Done => {
-                    let count = counted(chain.levels, samples);
-                    if count > rises.len() {
-                        return AfterBlock {
-                            chain,
-                            answer: Rises::Refused(Refusal::Room),
-                        };
-                    }
-                    AfterBlock {
-                        chain: listed(n, chain, samples, rises),
-                        answer: Rises::Count(count),
-                    }
-                }
-            }
-        }
+    if let Err(e) = checks::tested_with(n, chain, samples) {
+        return Handed {
+            value: chain,
+            answer: Err(e),
+        };
+    }
+    let count = counted(chain.levels, samples);
+    if count > rises.len() {
+        return Handed {
+            value: chain,
+            answer: Err(Refusal::Room),
+        };
+    }
+    Handed {
+        value: listed(n, chain, samples, rises),
+        answer: Ok(count),
     }
 }

@@ -2,27 +2,20 @@
 ghost use Rattle.std.specs.Prelude.{◌≡◌};
 ghost use Rattle.chain.specs.Finder as F;
 
-use base::{Refusal, Verdict};
+use base::Refusal;
 
-// Where the next LOAD rise stands.
-#[derive(Clone, Copy)]
-pub enum Rise {
-    At(usize),
-    Nothing,
-}
-
-// What the finder reports: the rise and how many samples it passed.
+// What the finder reports: the rise and how many samples it passed. Refused, both are there too (specs/Finder `handed_found`).
 #[derive(Clone, Copy)]
 pub struct Found {
-    pub rise: Rise,
+    pub rise: Option<usize>,
     pub passed: usize,
-    pub answer: Verdict,
+    pub answer: Result<(), Refusal>,
 }
 
 // The rise, and the samples counted on the way to it.
 #[derive(Clone, Copy)]
 struct Way {
-    rise: Rise,
+    rise: Option<usize>,
     passed: usize,
 }
 
@@ -33,14 +26,12 @@ fn looked(levels: u8, samples: &[u8]) -> Way
     let mut was = levels;
     let mut passed = 0;
     let rise = loop {
-        if passed >= samples.len() {
-            break Rise::Nothing;
-        }
-        let s = samples[passed];
-        let at = passed;
+        let Some(&s) = samples.get(passed) else {
+            break None;
+        };
         passed += 1;
         if chip::edges::load_rises(was, s) {
-            break Rise::At(at);
+            break Some(passed - 1);
         }
         was = s;
     };
@@ -53,26 +44,22 @@ pub fn next_rise(levels: u8, samples: &[u8]) -> Found
 {
     if levels > 7 {
         return Found {
-            rise: Rise::Nothing,
+            rise: None,
             passed: 0,
-            answer: Verdict::Refused(Refusal::Record),
+            answer: Err(Refusal::Record),
         };
     }
-    let test = crate::checks::checked(samples);
-    match test {
-        Verdict::Refused(e) => Found {
-            rise: Rise::Nothing,
+    if let Err(e) = crate::checks::checked(samples) {
+        return Found {
+            rise: None,
             passed: 0,
-            answer: Verdict::Refused(e),
-        },
-        Verdict::Done => {
-            let way = looked(levels, samples);
-            let rise = way.rise;
-            Found {
-                rise,
-                passed: way.passed,
-                answer: Verdict::Done,
-            }
-        }
+            answer: Err(e),
+        };
+    }
+    let Way { rise, passed } = looked(levels, samples);
+    Found {
+        rise,
+        passed,
+        answer: Ok(()),
     }
 }

@@ -5,7 +5,7 @@
 // inner functions, which other crates call: they test no record and refuse nothing.
 #![tactic(auto)]
 
-use base::{Refusal, Verdict};
+use base::{Handed, Refusal};
 use chip::{Chip, Keys, LineParts, Readout};
 
 pub mod blocks;
@@ -15,6 +15,7 @@ pub mod one;
 pub mod play;
 
 ghost use Rattle.std.specs.Prelude.{◌≡◌};
+ghost use Rattle.base.specs.Refusals.{handed};
 ghost use Rattle.chain.specs.Entries as E;
 
 // The most chips in a chain.
@@ -25,20 +26,6 @@ pub const MOST: usize = 8;
 pub struct Chain {
     pub chips: [Chip; MOST],
     pub levels: u8,
-}
-
-// A chain handed back, and whether it was refused.
-#[derive(Clone, Copy)]
-pub struct HandedChain {
-    pub chain: Chain,
-    pub answer: Verdict,
-}
-
-// What the host sees at the last chip's DOUT, low where refused.
-#[derive(Clone, Copy)]
-pub struct Seen {
-    pub level: bool,
-    pub answer: Verdict,
 }
 
 // A record of zeros, for a refusal that was given none to hand back.
@@ -66,38 +53,36 @@ fn zero_chain() -> Chain
 }
 
 // Reset chips with zero registers and latches of 1, the wires idle: refusal 3. All places of the record are set, and N are used.
-pub fn start(n: usize) -> HandedChain
-    ensures { E.handed_chain result ≡ E.started_of n }
+pub fn start(n: usize) -> Handed<Chain, ()>
+    ensures { handed result ≡ E.started_of n }
 {
     if !checks::is_count(n) {
-        return HandedChain {
-            chain: zero_chain(),
-            answer: Verdict::Refused(Refusal::ChipCount),
+        return Handed {
+            value: zero_chain(),
+            answer: Err(Refusal::ChipCount),
         };
     }
-    let c = chip::reset_chip();
-    HandedChain {
-        chain: Chain {
-            chips: [c; MOST],
+    Handed {
+        value: Chain {
+            chips: [chip::reset_chip(); MOST],
             levels: 7,
         },
-        answer: Verdict::Done,
+        answer: Ok(()),
     }
 }
 
 // What the host sees at the last chip's DOUT: refusals 3, 12.
-pub fn host_sees(n: usize, chain: Chain) -> Seen
-    ensures { E.handed_seen result ≡ E.seen_of n chain }
+pub fn host_sees(n: usize, chain: Chain) -> Handed<bool, ()>
+    ensures { handed result ≡ E.seen_of n chain }
 {
-    let test = checks::tested(n, chain);
-    match test {
-        Verdict::Refused(e) => Seen {
-            level: false,
-            answer: Verdict::Refused(e),
-        },
-        Verdict::Done => Seen {
-            level: chip::edges::dout(one::chip_at(n - 1, chain)),
-            answer: Verdict::Done,
-        },
+    if let Err(e) = checks::tested(n, chain) {
+        return Handed {
+            value: false,
+            answer: Err(e),
+        };
+    }
+    Handed {
+        value: chip::edges::dout(one::chip_at(n - 1, chain)),
+        answer: Ok(()),
     }
 }

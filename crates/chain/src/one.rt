@@ -1,20 +1,15 @@
 // One chip of a chain: scan it, apply a command to it, see its segments lit.
 ghost use Rattle.std.specs.Prelude.{◌≡◌};
+ghost use Rattle.base.specs.Refusals.{handed};
+ghost use Rattle.chip.specs.Entries.{handed_scan};
 ghost use Rattle.chip.specs.Scans as S;
 ghost use Rattle.chain.specs.Entries as E;
 
-use crate::{Chain, HandedChain, checks};
-use base::{Refusal, Verdict};
+use crate::{Chain, checks};
+use base::{Handed, Refusal};
 use chip::scans::AfterScan;
-use chip::{Chip, Lit, ScanAnswer};
+use chip::{Chip, Recorded};
 use word::Command;
-
-// A scanned chain handed back, and what the scan recorded.
-#[derive(Clone, Copy)]
-pub struct Scanned {
-    pub chain: Chain,
-    pub answer: ScanAnswer,
-}
 
 // One chip of a chain scanned: the chain after it, the chip before it, and what the scan took.
 #[derive(Clone, Copy)]
@@ -28,11 +23,10 @@ pub struct ChipScan {
 pub fn chip_at(k: usize, chain: Chain) -> Chip
     ensures { result ≡ E.chip_at k chain }
 {
-    let chips = chain.chips;
-    if k < crate::MOST {
-        return chips[k];
+    match chain.chips.get(k) {
+        Some(c) => *c,
+        None => chip::reset_chip(),
     }
-    chip::reset_chip()
 }
 
 // The chain with another record at a place; past the last, as it was.
@@ -57,96 +51,71 @@ pub fn scan_chip(k: usize, bytes: [u8; 8], chain: Chain) -> ChipScan
 {
     let before = chip_at(k, chain);
     let taken = chip::scans::scanned(bytes, before);
-    let scanned = taken.chip;
     ChipScan {
-        chain: with_chip(k, scanned, chain),
+        chain: with_chip(k, taken.chip, chain),
         before,
         taken,
     }
 }
 
 // Scans one chip: refusals 3, 12, 2.
-pub fn scan(n: usize, chain: Chain, k: usize, bytes: [u8; 8]) -> Scanned
-    ensures { E.handed_scan result ≡ E.scanned_of n chain k bytes }
+pub fn scan(n: usize, chain: Chain, k: usize, bytes: [u8; 8]) -> Handed<Chain, Recorded>
+    ensures { handed_scan result ≡ E.scanned_of n chain k bytes }
 {
-    let test = checks::tested(n, chain);
-    match test {
-        Verdict::Refused(e) => Scanned {
-            chain,
-            answer: ScanAnswer::Refused(e),
-        },
-        Verdict::Done => {
-            if k >= n {
-                return Scanned {
-                    chain,
-                    answer: ScanAnswer::Refused(Refusal::ScanChip),
-                };
-            }
-            let done = scan_chip(k, bytes, chain);
-            let after = done.chain;
-            let taken = done.taken;
-            let what = taken.recorded;
-            Scanned {
-                chain: after,
-                answer: ScanAnswer::Took(what),
-            }
-        }
+    if let Err(e) = checks::tested_at(n, chain, k) {
+        return Handed {
+            value: chain,
+            answer: Err(e),
+        };
+    }
+    let done = scan_chip(k, bytes, chain);
+    Handed {
+        value: done.chain,
+        answer: Ok(done.taken.recorded),
     }
 }
 
 // Applies a command directly to one chip: refusals 3, 12, 9, 2.
-pub fn apply(n: usize, chain: Chain, k: usize, command: Command) -> HandedChain
-    ensures { E.handed_chain result ≡ E.applied_of n chain k command }
+pub fn apply(n: usize, chain: Chain, k: usize, command: Command) -> Handed<Chain, ()>
+    ensures { handed result ≡ E.applied_of n chain k command }
 {
-    let test = checks::tested(n, chain);
-    match test {
-        Verdict::Refused(e) => HandedChain {
-            chain,
-            answer: Verdict::Refused(e),
-        },
-        Verdict::Done => {
-            if !word::is_legal(command) {
-                return HandedChain {
-                    chain,
-                    answer: Verdict::Refused(Refusal::Field(0)),
-                };
-            }
-            if k >= n {
-                return HandedChain {
-                    chain,
-                    answer: Verdict::Refused(Refusal::ScanChip),
-                };
-            }
-            let after = chip::commands::applied(command, chip_at(k, chain));
-            HandedChain {
-                chain: with_chip(k, after, chain),
-                answer: Verdict::Done,
-            }
-        }
+    if let Err(e) = checks::tested(n, chain) {
+        return Handed {
+            value: chain,
+            answer: Err(e),
+        };
+    }
+    if !word::is_legal(command) {
+        return Handed {
+            value: chain,
+            answer: Err(Refusal::Field(0)),
+        };
+    }
+    if k >= n {
+        return Handed {
+            value: chain,
+            answer: Err(Refusal::ScanChip),
+        };
+    }
+    let after = chip::commands::applied(command, chip_at(k, chain));
+    Handed {
+        value: with_chip(k, after, chain),
+        answer: Ok(()),
     }
 }
 
 // The segments lit of one chip: refusals 3, 12, 2.
-pub fn segments_lit(n: usize, chain: Chain, k: usize) -> Lit
-    ensures { E.handed_lit result ≡ E.segments_of n chain k }
+pub fn segments_lit(n: usize, chain: Chain, k: usize) -> Handed<[u8; 8], ()>
+    ensures { handed result ≡ E.segments_of n chain k }
 {
-    let test = checks::tested(n, chain);
-    match test {
-        Verdict::Refused(e) => Lit {
-            segments: [0; 8],
-            answer: Verdict::Refused(e),
-        },
-        Verdict::Done => {
-            if k >= n {
-                return Lit {
-                    segments: [0; 8],
-                    answer: Verdict::Refused(Refusal::ScanChip),
-                };
-            }
-            Lit {
-                segments: chip::segments::lit(chip_at(k, chain)),
-                answer: Verdict::Done,
-            }
-        }
+    if let Err(e) = checks::tested_at(n, chain, k) {
+        return Handed {
+            value: [0; 8],
+            answer: Err(e),
+        };
+    }
+    Handed {
+        value: chip::segments::lit(chip_at(k, chain)),
+        answer: Ok(()),
     }
 }

@@ -1,14 +1,16 @@
 // Playing samples. A sample without an edge touches the levels alone, a DCLK edge the line parts alone; only a LOAD rise copies
 // whole chips.
 ghost use Rattle.std.specs.Prelude.{◌≡◌, ◌≤◌, drop};
+ghost use Rattle.base.specs.Refusals.{handed};
 ghost use Rattle.chain.specs.Chain as C;
 ghost use Rattle.chain.specs.Entries as E;
 ghost use Rattle.chain.specs.Stretch as S;
 
-use crate::{Chain, HandedChain, checks};
-use base::Verdict;
+use crate::{Chain, checks};
+use base::Handed;
 
 // Samples played up to and with a LOAD rise: the chain after them, the place past the last of them, and whether LOAD rose there.
+// Chain and place are told without a rise too (specs/Stretch), so the flag stands beside them.
 #[derive(Clone, Copy)]
 pub struct Stretch {
     pub chain: Chain,
@@ -21,20 +23,17 @@ fn stepped(n: usize, chain: Chain, sample: u8) -> Chain
     requires { n ≤ C.most }
     ensures { result ≡ C.stepped_chain n sample chain }
 {
-    let was = chain.levels;
-    let mut next = chain;
+    let mut chips = chain.chips;
     let mut d = chip::edges::din(sample);
-    let mut k = 0;
-    while k < n {
-        let c = next.chips[k];
-        let s = chip::edges::stepped(c, was, sample, d);
-        let out = chip::edges::dout(c);
-        next.chips[k] = s;
+    for c in &mut chips[..n] {
+        let out = chip::edges::dout(*c);
+        *c = chip::edges::stepped(*c, chain.levels, sample, d);
         d = out;
-        k += 1;
     }
-    next.levels = sample;
-    next
+    Chain {
+        chips,
+        levels: sample,
+    }
 }
 
 // A stretch of at most the most chips, from a place of the samples on: up to and with the next LOAD rise, or to their end.
@@ -42,52 +41,42 @@ fn stretch_of(n: usize, chain: Chain, samples: &[u8], from: usize) -> Stretch
     requires { n ≤ C.most }
     ensures { result ≡ S.stretch_from n from (drop from samples.now) chain }
 {
-    let mut next = chain;
-    let mut i = from;
-    while i < samples.len() {
+    let mut chips = chain.chips;
+    let mut was = chain.levels;
+    for i in from..samples.len() {
         let s = samples[i];
-        let was = next.levels;
-        i += 1;
         if chip::edges::load_rises(was, s) {
+            let before = Chain { chips, levels: was };
             return Stretch {
-                chain: stepped(n, next, s),
-                stop: i,
+                chain: stepped(n, before, s),
+                stop: i + 1,
                 rose: true,
             };
         }
-        next.levels = s;
         if chip::edges::dclk_rises(was, s) {
             let mut d = chip::edges::din(s);
-            let mut k = 0;
-            while k < n {
+            for c in &mut chips[..n] {
                 let out = chip::edges::shows(
-                    next.chips[k].settings.system.keyb,
-                    next.chips[k].line.latch,
-                    next.chips[k].keys.interrupt,
-                    next.chips[k].line.readout.code,
-                    next.chips[k].line.readout.left,
+                    c.settings.system.keyb,
+                    c.line.latch,
+                    c.keys.interrupt,
+                    c.line.readout.code,
+                    c.line.readout.left,
                 );
-                let register = chip::edges::shifted(next.chips[k].line.register, d);
-                next.chips[k].line.register = register;
+                c.line.register = chip::edges::shifted(c.line.register, d);
                 d = out;
-                k += 1;
             }
-            continue;
-        }
-        if chip::edges::dclk_falls(was, s) {
-            let mut k = 0;
-            while k < n {
-                let bit = chip::edges::lowest_bit(next.chips[k].line.register);
-                let left = chip::edges::moved_on(next.chips[k].line.readout.left);
-                next.chips[k].line.latch = bit;
-                next.chips[k].line.readout.left = left;
-                k += 1;
+        } else if chip::edges::dclk_falls(was, s) {
+            for c in &mut chips[..n] {
+                c.line.latch = chip::edges::lowest_bit(c.line.register);
+                c.line.readout.left = chip::edges::moved_on(c.line.readout.left);
             }
         }
+        was = s;
     }
     Stretch {
-        chain: next,
-        stop: i,
+        chain: Chain { chips, levels: was },
+        stop: from.max(samples.len()),
         rose: false,
     }
 }
@@ -96,10 +85,7 @@ fn stretch_of(n: usize, chain: Chain, samples: &[u8], from: usize) -> Stretch
 pub fn to_next_rise(n: usize, chain: Chain, samples: &[u8], from: usize) -> Stretch
     ensures { result ≡ S.stretch_from n from (drop from samples.now) chain }
 {
-    if n > crate::MOST {
-        return stretch_of(crate::MOST, chain, samples, from);
-    }
-    stretch_of(n, chain, samples, from)
+    stretch_of(n.min(crate::MOST), chain, samples, from)
 }
 
 // All samples, one stretch after another.
@@ -108,37 +94,27 @@ fn played(n: usize, chain: Chain, samples: &[u8]) -> Chain
 {
     let mut next = chain;
     let mut i = 0;
+    // the step is as long as a stretch, so no iterator counts it
     while i < samples.len() {
         let part = to_next_rise(n, next, samples, i);
-        let after = part.chain;
-        next = after;
+        next = part.chain;
         i = part.stop;
     }
     next
 }
 
 // Plays a block of samples: refusals 3, 12, 1. All samples are tested before any is played.
-pub fn play(n: usize, chain: Chain, samples: &[u8]) -> HandedChain
-    ensures { E.handed_chain result ≡ E.played_of n chain samples.now }
+pub fn play(n: usize, chain: Chain, samples: &[u8]) -> Handed<Chain, ()>
+    ensures { handed result ≡ E.played_of n chain samples.now }
 {
-    let first = checks::tested(n, chain);
-    match first {
-        Verdict::Refused(e) => HandedChain {
-            chain,
-            answer: Verdict::Refused(e),
-        },
-        Verdict::Done => {
-            let second = checks::checked(samples);
-            match second {
-                Verdict::Refused(e) => HandedChain {
-                    chain,
-                    answer: Verdict::Refused(e),
-                },
-                Verdict::Done => HandedChain {
-                    chain: played(n, chain, samples),
-                    answer: Verdict::Done,
-                },
-            }
-        }
+    if let Err(e) = checks::tested_with(n, chain, samples) {
+        return Handed {
+            value: chain,
+            answer: Err(e),
+        };
+    }
+    Handed {
+        value: played(n, chain, samples),
+        answer: Ok(()),
     }
 }

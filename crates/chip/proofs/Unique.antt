@@ -2,22 +2,15 @@
 -- The entries come first, then the inner functions by module.
 -- Assumes nothing.
 use mathlib.Core.Path.{◌≡◌, refl, ap, sym, ◌∙◌}
-use mathlib.Core.List.{List}
-use Prim.Native.Nat.{ℕ}
 use Rattle.base.specs.Refusals.{Told, done, refused, Outcome}
 use Rattle.base.specs.Unique.{AllowsOne}
 use Rattle.base.proofs.Refusals.{refusal_of, refusal_back}
-use Rattle.base.proofs.Unique.{same_answer, same_verdict}
-use Rattle.chip.specs.declared.Chip.{Chip}
+use Rattle.base.proofs.Unique.{same_answer, same_handed}
 use Rattle.chip.specs.declared.Recorded.{Recorded}
 use Rattle.chip.specs.declared.Recorded.TheVariants as Records
-use Rattle.chip.specs.declared.HandedChip.{HandedChip}
-use Rattle.chip.specs.declared.ScanAnswer.{ScanAnswer}
-use Rattle.chip.specs.declared.ScanAnswer.TheVariants as Answers
-use Rattle.chip.specs.declared.Lit.{Lit}
 use Rattle.chip.specs.declared.scans.AfterScan.{AfterScan}
 use Rattle.chip.specs.Scans.{Recording, nothing, key_code, over_unread, release_noted, recording_of, ScanLeaves, leaves_of}
-use Rattle.chip.specs.Entries.{handed_chip, scan_tells, handed_lit}
+use Rattle.chip.specs.Entries.{scan_tells, handed_scan}
 use Rattle.chip.proofs.reset_chip
 use Rattle.chip.proofs.apply
 use Rattle.chip.proofs.sample
@@ -28,13 +21,12 @@ use Rattle.chip.proofs.commands
 use Rattle.chip.proofs.edges
 use Rattle.chip.proofs.scans
 use Rattle.chip.proofs.segments
+use Rattle.std.specs.declared.result.Result.{Result}
+use Rattle.std.specs.declared.result.Result.TheVariants.{Ok, Err}
+use Rattle.base.specs.declared.Refusal.{Refusal}
+use Rattle.base.specs.declared.Handed.{Handed}
 
 -- ---- what is handed back is told
-
-handed_same : {x : Outcome Chip (Unit {0})} (r s : HandedChip) → handed_chip r ≡ x → handed_chip s ≡ x → r ≡ s
-handed_same r s p q =
-    let e = same_answer p q in
-    λ i. record { chip = ap (λ o. o.state) e i; answer = same_verdict {v = r.answer} {w = s.answer} (ap (λ o. o.told) e) i }
 
 -- the answer of a value, and back
 pub record_of : Recording → Recorded
@@ -57,17 +49,21 @@ recording_back (key_code code) = refl
 recording_back (over_unread code) = refl
 recording_back release_noted = refl
 
-answered : Told Recording → ScanAnswer
-answered (done what) = Answers.Took (record_of what)
-answered (refused number place) = Answers.Refused (refusal_of number place)
+answered : Told Recording → (Result Recorded Refusal)
+answered (done what) = Ok (record_of what)
+answered (refused number place) = Err (refusal_of number place)
 
-answered_back : (a : ScanAnswer) → answered (scan_tells a) ≡ a
+answered_back : (a : Result Recorded Refusal) → answered (scan_tells a) ≡ a
 unfolding answered
-answered_back (Answers.Took what) = ap Answers.Took (record_back what)
-answered_back (Answers.Refused e) = ap Answers.Refused (refusal_back e)
+answered_back (Ok what) = ap Ok (record_back what)
+answered_back (Err e) = ap Err (refusal_back e)
 
-pub same_scan_answer : {a b : ScanAnswer} → scan_tells a ≡ scan_tells b → a ≡ b
-same_scan_answer {a} {b} e = sym (answered_back a) ∙ ap answered e ∙ answered_back b
+-- a contract `handed_scan r ≡ x`
+pub same_scan : {S : Type 0} {x : Outcome S Recording} {r s : Handed S Recorded} → handed_scan r ≡ x → handed_scan s ≡ x → r ≡ s
+same_scan {r = r} {s = s} p q =
+    let e = same_answer p q in
+    let answer = sym (answered_back r.answer) ∙ ap (λ o. answered o.told) e ∙ answered_back s.answer in
+    λ i. record { value = ap (λ o. o.state) e i; answer = answer i }
 
 pub same_taken : {x : ScanLeaves} (s t : AfterScan) → leaves_of s ≡ x → leaves_of t ≡ x → s ≡ t
 same_taken s t p q =
@@ -75,30 +71,22 @@ same_taken s t p q =
     let what = sym (record_back s.recorded) ∙ ap (λ x. record_of x.recorded) e ∙ record_back t.recorded in
     λ i. record { chip = ap (λ x. x.chip) e i; recorded = what i }
 
-pub same_lit : {x : Outcome (List ℕ) (Unit {0})} (r s : Lit) → handed_lit r ≡ x → handed_lit s ≡ x → r ≡ s
-same_lit r s p q =
-    let e = same_answer p q in
-    λ i. record { segments = ap (λ o. o.state) e i; answer = same_verdict {v = r.answer} {w = s.answer} (ap (λ o. o.told) e) i }
-
 -- ---- the entries
 
 pub reset_chip_unique : AllowsOne reset_chip.Kinds.ps reset_chip.Kinds.r reset_chip.Reads.Learnt
 reset_chip_unique κs a x y last last' p q = (same_answer p q, refl)
 
 pub apply_unique : AllowsOne apply.Kinds.ps apply.Kinds.r apply.Reads.Learnt
-apply_unique κs a x y last last' p q = (handed_same x y p q, refl)
+apply_unique κs a x y last last' p q = (same_handed p q, refl)
 
 pub sample_unique : AllowsOne sample.Kinds.ps sample.Kinds.r sample.Reads.Learnt
-sample_unique κs a x y last last' p q = (handed_same x y p q, refl)
+sample_unique κs a x y last last' p q = (same_handed p q, refl)
 
 pub scan_unique : AllowsOne scan.Kinds.ps scan.Kinds.r scan.Reads.Learnt
-scan_unique κs a x y last last' p q =
-    let e = same_answer p q in
-    let answer = same_scan_answer {a = x.answer} {b = y.answer} (ap (λ o. o.told) e) in
-    (λ i. record { chip = ap (λ o. o.state) e i; answer = answer i }, refl)
+scan_unique κs a x y last last' p q = (same_scan p q, refl)
 
 pub segments_lit_unique : AllowsOne segments_lit.Kinds.ps segments_lit.Kinds.r segments_lit.Reads.Learnt
-segments_lit_unique κs a x y last last' p q = (same_lit x y p q, refl)
+segments_lit_unique κs a x y last last' p q = (same_handed p q, refl)
 
 -- ---- the inner functions
 

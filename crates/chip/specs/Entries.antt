@@ -2,24 +2,20 @@
 -- Assumes nothing.
 use Rattle.std.specs.Prelude.{ℕ, List, leb}
 use Rattle.base.specs.Pick.{pick}
-use Rattle.base.specs.Refusals.{Told, done, refused_by, Outcome, hands_back, verdict_tells}
+use Rattle.base.specs.Refusals.{Told, done, refused_by, Outcome, hands_back}
 use Rattle.word.specs.declared.Command.{Command}
 use Rattle.word.specs.Words.{legal}
 use Rattle.chip.specs.declared.Chip.{Chip}
-use Rattle.chip.specs.declared.HandedChip.{HandedChip}
-use Rattle.chip.specs.declared.Scanned.{Scanned}
-use Rattle.chip.specs.declared.ScanAnswer.{ScanAnswer}
-use Rattle.chip.specs.declared.ScanAnswer.TheVariants as Scan
-use Rattle.chip.specs.declared.Lit.{Lit}
+use Rattle.chip.specs.declared.Recorded.{Recorded}
 use Rattle.chip.specs.Record.{valid, blank}
 use Rattle.chip.specs.Commands.{applied}
 use Rattle.chip.specs.Edges.{din, stepped}
 use Rattle.chip.specs.Segments.{lit_of}
 use Rattle.chip.specs.Scans.{Recording, recording_of, scanned, recorded}
-
--- a chip handed back
-abbrev pub handed_chip : HandedChip → Outcome Chip (Unit {0})
-handed_chip r = record { state = r.chip; told = verdict_tells r.answer }
+use Rattle.std.specs.declared.result.Result.{Result}
+use Rattle.std.specs.declared.result.Result.TheVariants.{Ok, Err}
+use Rattle.base.specs.declared.Refusal.{Refusal}
+use Rattle.base.specs.declared.Handed.{Handed}
 
 -- a command applied directly: refusals 12, 9
 unfoldable pub applied_of : Chip → Command → Outcome Chip (Unit {0})
@@ -38,21 +34,17 @@ sampled_of c levels sample =
     (hands_back c 12 0)
 
 -- what a scan's answer tells
-abbrev pub scan_tells : ScanAnswer → Told Recording
-scan_tells (Scan.Took what) = done (recording_of what)
-scan_tells (Scan.Refused e) = refused_by e
+abbrev pub scan_tells : Result Recorded Refusal → Told Recording
+scan_tells (Ok what) = done (recording_of what)
+scan_tells (Err e) = refused_by e
 
--- a scanned chip handed back, with what was recorded
-abbrev pub handed_scan : Scanned → Outcome Chip Recording
-handed_scan r = record { state = r.chip; told = scan_tells r.answer }
+-- what a scan hands back, and what its answer tells
+abbrev pub handed_scan : {S : Type 0} → Handed S Recorded → Outcome S Recording
+handed_scan r = record { state = r.value; told = scan_tells r.answer }
 
 -- one scan: refusal 12
 unfoldable pub scanned_of : Chip → List ℕ → Outcome Chip Recording
 scanned_of c bytes = pick (valid c) (record { state = scanned bytes c; told = done (recorded bytes c) }) (hands_back c 12 0)
-
--- eight bytes of segments, zeros where refused
-abbrev pub handed_lit : Lit → Outcome (List ℕ) (Unit {0})
-handed_lit r = record { state = r.segments; told = verdict_tells r.answer }
 
 -- the segments lit: refusal 12
 unfoldable pub segments_of : Chip → Outcome (List ℕ) (Unit {0})

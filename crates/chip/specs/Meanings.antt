@@ -1,6 +1,6 @@
 -- What each of the four things that a scan can record means, of the key record before the scan and the one after it: theorem
--- `records-exactly` of proofs/Meanings.antt. And which code was recorded last, for that of an unread code that is lost: theorem
--- `lost-is-last` of proofs/Lost.antt. No contract cites these.
+-- `records_exactly` of proofs/Meanings.antt. And which code was recorded last, for that of an unread code that is lost: theorem
+-- `lost_is_last` of proofs/Lost.antt. No contract cites these.
 -- Assumes nothing.
 use Rattle.std.specs.Prelude.{◌≡◌, true, false, List, [], ◌∷◌, ℕ, ◌<◌}
 use Rattle.base.specs.Bits.{bit}

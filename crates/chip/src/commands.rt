@@ -8,7 +8,8 @@ ghost use Rattle.chip.specs.Commands as C;
 ghost use Rattle.chip.specs.Edges as E;
 
 use crate::{Chip, Keys, NONE, Settings};
-use word::{Command, Decoded, Display, System};
+use std::array;
+use word::{Command, Display, System};
 
 pub fn reset_settings() -> Settings
     ensures { result ≡ reset_settings }
@@ -46,27 +47,20 @@ fn bar_byte(level: u8, dig: u8) -> u8
     requires { dig < 8 }
     ensures { result ≡ byte_of (λ s. ltb (C.address s dig) level) }
 {
-    let lit = ((level as u16) + 7 - (dig as u16)) / 8;
+    let lit = (u16::from(level) + 7 - u16::from(dig)) / 8;
     if lit >= 8 {
-        return 255;
+        255
+    } else {
+        base::field(255, 8 - lit, 8) as u8
     }
-    base::field(255, 8 - lit, 8) as u8
 }
 
 // Every digit under a bar.
+#[tactic(auto, unfolding(crate::specs::Commands::bar))]
 fn bar(level: u8) -> [u8; 8]
     ensures { result ≡ C.bar level }
 {
-    [
-        bar_byte(level, 0),
-        bar_byte(level, 1),
-        bar_byte(level, 2),
-        bar_byte(level, 3),
-        bar_byte(level, 4),
-        bar_byte(level, 5),
-        bar_byte(level, 6),
-        bar_byte(level, 7),
-    ]
+    array::from_fn(|dig| bar_byte(level, dig as u8))
 }
 
 // A byte with one bit made on or off.
@@ -74,15 +68,8 @@ fn with_bit(byte: u8, seg: u8, on: bool) -> u8
     requires { seg < 8 }
     ensures { result ≡ byte_of (λ s. pick (eqb s seg) on (bit byte s)) }
 {
-    let wide = byte as u16;
-    let at = seg as u16;
-    if base::field(wide, at, 1) == base::bit_value(on) {
-        return byte;
-    }
-    if on {
-        return (wide + (1 << at)) as u8;
-    }
-    (wide - (1 << at)) as u8
+    let mask = 1 << seg;
+    if on { byte | mask } else { byte & !mask }
 }
 
 // One segment made on or off: ADDR is 8·SEG + DIG.
@@ -92,11 +79,10 @@ fn segment(on: bool, addr: u8, digits: [u8; 8]) -> [u8; 8]
     if addr > 63 {
         return digits;
     }
-    let wide = addr as u16;
-    let dig = base::field(wide, 0, 3) as usize;
+    let wide = u16::from(addr);
+    let dig = usize::from(base::field(wide, 0, 3));
     let mut ds = digits;
-    let byte = with_bit(digits[dig], base::field(wide, 3, 3) as u8, on);
-    ds[dig] = byte;
+    ds[dig] = with_bit(digits[dig], base::field(wide, 3, 3) as u8, on);
     ds
 }
 
@@ -119,7 +105,7 @@ fn with_digit(dig: u8, byte: u8, digits: [u8; 8]) -> [u8; 8]
     ensures { result ≡ set digits dig byte }
 {
     let mut ds = digits;
-    let at = dig as usize;
+    let at = usize::from(dig);
     if at < 8 {
         ds[at] = byte;
     }
@@ -127,6 +113,7 @@ fn with_digit(dig: u8, byte: u8, digits: [u8; 8]) -> [u8; 8]
 }
 
 // Everything as at the start but for the register, the latch, and the code of a readout that is over.
+#[tactic(auto, unfolding(crate::specs::Commands::reset))]
 fn reset(chip: Chip) -> Chip
     ensures { result ≡ C.reset chip }
 {
@@ -141,56 +128,50 @@ fn reset(chip: Chip) -> Chip
 }
 
 // System parameters; KEYB 0 also clears the interrupt, forgets the last scan and ends the readout.
+#[tactic(auto, unfolding(crate::specs::Commands::system))]
 fn system(s: System, chip: Chip) -> Chip
     ensures { result ≡ C.system s chip }
 {
-    let mut settings = chip.settings;
-    settings.system = s;
     let mut next = chip;
-    next.settings = settings;
-    if s.keyb {
-        return next;
+    next.settings.system = s;
+    if !s.keyb {
+        next.keys.interrupt = false;
+        next.keys.last = NONE;
+        next.line.readout.left = 0;
     }
-    next.keys.interrupt = false;
-    next.keys.last = NONE;
-    next.line.readout.left = 0;
     next
 }
 
 // With KEYB on, the interrupt is cleared and a readout of the code starts.
+#[tactic(auto, unfolding(crate::specs::Commands::read_key))]
 fn read_key(chip: Chip) -> Chip
     ensures { result ≡ C.read_key chip }
 {
-    if !chip.settings.system.keyb {
-        return chip;
-    }
     let mut next = chip;
-    let code = chip.keys.code;
-    next.line.readout.code = code;
-    next.line.readout.left = 7;
-    next.keys.interrupt = false;
+    if chip.settings.system.keyb {
+        next.line.readout.code = chip.keys.code;
+        next.line.readout.left = 7;
+        next.keys.interrupt = false;
+    }
     next
 }
 
 fn with_digits(digits: [u8; 8], chip: Chip) -> Chip
     ensures { result ≡ P.with_digits digits chip }
 {
-    let mut next = chip;
-    next.digits = digits;
-    next
+    Chip { digits, ..chip }
 }
 
 fn with_display(d: Display, chip: Chip) -> Chip
     ensures { result ≡ P.with_display d chip }
 {
-    let mut settings = chip.settings;
-    settings.display = d;
     let mut next = chip;
-    next.settings = settings;
+    next.settings.display = d;
     next
 }
 
 // What a command does to a chip that is awake.
+#[tactic(auto, unfolding(crate::specs::Commands::obey))]
 fn obey(command: Command, chip: Chip) -> Chip
     ensures { result ≡ C.obey command chip }
 {
@@ -236,6 +217,7 @@ fn woken(chip: Chip) -> Chip
 }
 
 // A command applied directly, as a LOAD rise applies it.
+#[tactic(auto, unfolding(crate::specs::Commands::applied))]
 pub fn applied(command: Command, chip: Chip) -> Chip
     ensures { result ≡ C.applied command chip }
 {
@@ -243,11 +225,12 @@ pub fn applied(command: Command, chip: Chip) -> Chip
 }
 
 // A LOAD rise: the register is obeyed, whatever it holds.
+#[tactic(auto, unfolding(crate::specs::Edges::loaded))]
 pub(crate) fn loaded(chip: Chip) -> Chip
     ensures { result ≡ E.loaded chip }
 {
     match word::decode(chip.line.register) {
-        Decoded::Means(command) => applied(command, chip),
-        Decoded::Refused(_) => woken(chip),
+        Ok(command) => applied(command, chip),
+        Err(_) => woken(chip),
     }
 }

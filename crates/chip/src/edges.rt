@@ -10,7 +10,7 @@ use crate::{Chip, LineParts, commands};
 fn wire(sample: u8, at: u16) -> bool
     ensures { result ≡ bit sample at }
 {
-    base::field(sample as u16, at, 1) == 1
+    base::field(u16::from(sample), at, 1) == 1
 }
 
 pub fn din(sample: u8) -> bool
@@ -22,28 +22,19 @@ pub fn din(sample: u8) -> bool
 pub fn dclk_rises(was: u8, now: u8) -> bool
     ensures { result ≡ E.dclk_rises was «now» }
 {
-    if wire(was, 1) {
-        return false;
-    }
-    wire(now, 1)
+    !wire(was, 1) && wire(now, 1)
 }
 
 pub fn dclk_falls(was: u8, now: u8) -> bool
     ensures { result ≡ E.dclk_falls was «now» }
 {
-    if wire(was, 1) {
-        return !wire(now, 1);
-    }
-    false
+    wire(was, 1) && !wire(now, 1)
 }
 
 pub fn load_rises(was: u8, now: u8) -> bool
     ensures { result ≡ E.load_rises was «now» }
 {
-    if wire(was, 2) {
-        return false;
-    }
-    wire(now, 2)
+    !wire(was, 2) && wire(now, 2)
 }
 
 // The register moves down one place, its lowest bit is lost, and DIN is placed at bit 11.
@@ -64,7 +55,7 @@ pub fn lowest_bit(register: u16) -> bool
 pub fn moved_on(left: u8) -> u8
     ensures { result ≡ left - 1 }
 {
-    if left == 0 { 0 } else { left - 1 }
+    left.saturating_sub(1)
 }
 
 // What DOUT shows, of the parts of a chip that decide it.
@@ -72,14 +63,15 @@ pub fn shows(keyb: bool, latch: bool, interrupt: bool, code: u8, left: u8) -> bo
     ensures { result ≡ C.shows keyb latch interrupt code left }
 {
     if !keyb {
-        return latch;
+        latch
+    } else if left == 0 {
+        !interrupt
+    } else {
+        base::field(u16::from(code), u16::from(left - 1), 1) == 1
     }
-    if left == 0 {
-        return !interrupt;
-    }
-    base::field(code as u16, (left - 1) as u16, 1) == 1
 }
 
+#[tactic(auto, unfolding(crate::specs::Commands::dout))]
 pub fn dout(chip: Chip) -> bool
     ensures { result ≡ C.dout chip }
 {
@@ -93,35 +85,30 @@ pub fn dout(chip: Chip) -> bool
 }
 
 // What DCLK does to the line parts.
+#[tactic(auto, unfolding(crate::specs::Edges::clocked))]
 fn clocked(was: u8, now: u8, din: bool, line: LineParts) -> LineParts
     ensures { result ≡ E.clocked was «now» din line }
 {
     let mut l = line;
     if dclk_falls(was, now) {
-        let bit = lowest_bit(line.register);
-        let left = moved_on(line.readout.left);
-        l.latch = bit;
-        l.readout.left = left;
-        return l;
-    }
-    if dclk_rises(was, now) {
-        let register = shifted(line.register, din);
-        l.register = register;
-        return l;
+        l.latch = lowest_bit(line.register);
+        l.readout.left = moved_on(line.readout.left);
+    } else if dclk_rises(was, now) {
+        l.register = shifted(line.register, din);
     }
     l
 }
 
 // One sample: DCLK's edge, then LOAD's rise.
+#[tactic(auto, unfolding(crate::specs::Edges::stepped))]
 pub fn stepped(chip: Chip, was: u8, now: u8, din: bool) -> Chip
     ensures { result ≡ E.stepped was «now» din chip }
 {
-    let line = chip.line;
-    let moved = clocked(was, now, din, line);
     let mut next = chip;
-    next.line = moved;
+    next.line = clocked(was, now, din, chip.line);
     if load_rises(was, now) {
-        return commands::loaded(next);
+        commands::loaded(next)
+    } else {
+        next
     }
-    next
 }

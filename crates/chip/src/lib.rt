@@ -4,7 +4,7 @@
 // answer for every record, valid or not, and refuse nothing.
 #![tactic(auto)]
 
-use base::{Refusal, Verdict};
+use base::{Handed, Refusal};
 use word::{Command, Display, System};
 
 pub mod commands;
@@ -13,8 +13,9 @@ pub mod scans;
 pub mod segments;
 
 ghost use Rattle.std.specs.Prelude.{◌≡◌};
+ghost use Rattle.base.specs.Refusals.{handed};
 ghost use Rattle.chip.specs.Record.{reset_chip, valid, valid_line, valid_settings, valid_keys, valid_readout};
-ghost use Rattle.chip.specs.Entries.{handed_chip, applied_of, sampled_of, handed_scan, scanned_of, handed_lit, segments_of};
+ghost use Rattle.chip.specs.Entries.{applied_of, sampled_of, handed_scan, scanned_of, segments_of};
 
 // What is left of a readout: bits of a code, K6 first. With 0 bits left there is none.
 #[derive(Clone, Copy)]
@@ -58,7 +59,7 @@ pub struct Chip {
     pub keys: Keys,
 }
 
-// The last scan, or a scan's result, where no contact was closed.
+// The last scan, or a scan's result, where no contact was closed. It is a number beside the addresses, as it is in C's panel.
 pub const NONE: u8 = 64;
 
 // What a scan recorded: one of four things.
@@ -72,33 +73,6 @@ pub enum Recorded {
     OverUnread(u8),
     // Release noted: bit 6 of the code went from 1 to 0.
     Released,
-}
-
-// A chip handed back, and whether it was refused.
-#[derive(Clone, Copy)]
-pub struct HandedChip {
-    pub chip: Chip,
-    pub answer: Verdict,
-}
-
-#[derive(Clone, Copy)]
-pub enum ScanAnswer {
-    Took(Recorded),
-    Refused(Refusal),
-}
-
-// A scanned chip handed back, and what the scan recorded.
-#[derive(Clone, Copy)]
-pub struct Scanned {
-    pub chip: Chip,
-    pub answer: ScanAnswer,
-}
-
-// The segments lit of DIG0 to DIG7, zeros where refused.
-#[derive(Clone, Copy)]
-pub struct Lit {
-    pub segments: [u8; 8],
-    pub answer: Verdict,
 }
 
 // A chip as the capture text starts it: reset, a zero register and a latch of 1.
@@ -121,143 +95,115 @@ pub fn reset_chip() -> Chip
 fn is_readout(r: Readout) -> bool
     ensures { result ≡ valid_readout r }
 {
-    if r.left > 7 {
-        return false;
-    }
-    if r.left == 0 {
-        return true;
-    }
-    r.code <= 127
+    r.left <= 7 && (r.left == 0 || r.code <= 127)
 }
 
 // Refusal 12's chip part, by parts. LineParts parts: register and readout.
 fn is_line(line: LineParts) -> bool
     ensures { result ≡ valid_line line }
 {
-    if line.register > 4095 {
-        return false;
-    }
-    let readout = line.readout;
-    is_readout(readout)
+    line.register <= 4095 && is_readout(line.readout)
 }
 
 // Settings: custom and limit.
 fn is_settings(settings: Settings) -> bool
     ensures { result ≡ valid_settings settings }
 {
-    if settings.custom > 127 {
-        return false;
-    }
-    settings.display.limit <= 7
+    settings.custom <= 127 && settings.display.limit <= 7
 }
 
 // Key record: code and last scan.
 fn is_keys(keys: Keys) -> bool
     ensures { result ≡ valid_keys keys }
 {
-    if keys.code > 127 {
-        return false;
-    }
-    keys.last <= NONE
+    keys.code <= 127 && keys.last <= NONE
 }
 
 // Whether a record is one that a chip can hold: every part is.
+#[tactic(auto, unfolding(crate::specs::Record::valid))]
 pub fn is_valid(chip: Chip) -> bool
     ensures { result ≡ valid chip }
 {
-    let line = chip.line;
-    if !is_line(line) {
-        return false;
-    }
-    let settings = chip.settings;
-    if !is_settings(settings) {
-        return false;
-    }
-    let keys = chip.keys;
-    is_keys(keys)
+    is_line(chip.line) && is_settings(chip.settings) && is_keys(chip.keys)
 }
 
 // A command applied directly, as a LOAD rise applies it: refusals 12, 9.
-pub fn apply(chip: Chip, command: Command) -> HandedChip
-    ensures { handed_chip result ≡ applied_of chip command }
+#[tactic(auto, unfolding(crate::specs::Entries::applied_of))]
+pub fn apply(chip: Chip, command: Command) -> Handed<Chip, ()>
+    ensures { handed result ≡ applied_of chip command }
 {
     if !is_valid(chip) {
-        return HandedChip {
-            chip,
-            answer: Verdict::Refused(Refusal::Record),
+        return Handed {
+            value: chip,
+            answer: Err(Refusal::Record),
         };
     }
     if !word::is_legal(command) {
-        return HandedChip {
-            chip,
-            answer: Verdict::Refused(Refusal::Field(0)),
+        return Handed {
+            value: chip,
+            answer: Err(Refusal::Field(0)),
         };
     }
-    HandedChip {
-        chip: commands::applied(command, chip),
-        answer: Verdict::Done,
+    Handed {
+        value: commands::applied(command, chip),
+        answer: Ok(()),
     }
 }
 
 // One sample, after the levels given: refusals 12, 1.
-pub fn sample(chip: Chip, levels: u8, sample: u8) -> HandedChip
-    ensures { handed_chip result ≡ sampled_of chip levels sample }
+#[tactic(auto, unfolding(crate::specs::Entries::sampled_of))]
+pub fn sample(chip: Chip, levels: u8, sample: u8) -> Handed<Chip, ()>
+    ensures { handed result ≡ sampled_of chip levels sample }
 {
-    if !is_valid(chip) {
-        return HandedChip {
-            chip,
-            answer: Verdict::Refused(Refusal::Record),
-        };
-    }
-    if levels > 7 {
-        return HandedChip {
-            chip,
-            answer: Verdict::Refused(Refusal::Record),
+    if !is_valid(chip) || levels > 7 {
+        return Handed {
+            value: chip,
+            answer: Err(Refusal::Record),
         };
     }
     if sample > 7 {
-        return HandedChip {
-            chip,
-            answer: Verdict::Refused(Refusal::Sample(0)),
+        return Handed {
+            value: chip,
+            answer: Err(Refusal::Sample(0)),
         };
     }
-    HandedChip {
-        chip: edges::stepped(chip, levels, sample, edges::din(sample)),
-        answer: Verdict::Done,
+    Handed {
+        value: edges::stepped(chip, levels, sample, edges::din(sample)),
+        answer: Ok(()),
     }
 }
 
 // One key scan: refusal 12.
-pub fn scan(chip: Chip, bytes: [u8; 8]) -> Scanned
+#[tactic(auto, unfolding(crate::specs::Entries::scanned_of))]
+pub fn scan(chip: Chip, bytes: [u8; 8]) -> Handed<Chip, Recorded>
     ensures { handed_scan result ≡ scanned_of chip bytes }
 {
     if !is_valid(chip) {
-        return Scanned {
-            chip,
-            answer: ScanAnswer::Refused(Refusal::Record),
+        return Handed {
+            value: chip,
+            answer: Err(Refusal::Record),
         };
     }
     let taken = scans::scanned(bytes, chip);
-    let after = taken.chip;
-    let what = taken.recorded;
-    Scanned {
-        chip: after,
-        answer: ScanAnswer::Took(what),
+    Handed {
+        value: taken.chip,
+        answer: Ok(taken.recorded),
     }
 }
 
 // The segments lit of all eight digits: refusal 12.
-pub fn segments_lit(chip: Chip) -> Lit
-    ensures { handed_lit result ≡ segments_of chip }
+#[tactic(auto, unfolding(crate::specs::Entries::segments_of))]
+pub fn segments_lit(chip: Chip) -> Handed<[u8; 8], ()>
+    ensures { handed result ≡ segments_of chip }
 {
     if !is_valid(chip) {
-        return Lit {
-            segments: [0; 8],
-            answer: Verdict::Refused(Refusal::Record),
+        return Handed {
+            value: [0; 8],
+            answer: Err(Refusal::Record),
         };
     }
-    Lit {
-        segments: segments::lit(chip),
-        answer: Verdict::Done,
+    Handed {
+        value: segments::lit(chip),
+        answer: Ok(()),
     }
 }

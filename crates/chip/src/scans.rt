@@ -9,14 +9,7 @@ use crate::{Chip, Keys, NONE, Recorded};
 fn packed(bytes: [u8; 8]) -> u64
     ensures { M.Packs bytes result }
 {
-    (bytes[0] as u64)
-        | ((bytes[1] as u64) << 8)
-        | ((bytes[2] as u64) << 16)
-        | ((bytes[3] as u64) << 24)
-        | ((bytes[4] as u64) << 32)
-        | ((bytes[5] as u64) << 40)
-        | ((bytes[6] as u64) << 48)
-        | ((bytes[7] as u64) << 56)
+    u64::from_le_bytes(bytes)
 }
 
 // The SEGs with a contact closed, bit s for SEG s: the eight bytes laid over each other, half over half, into four, two and one.
@@ -58,22 +51,17 @@ fn result(bytes: [u8; 8]) -> u8
     let contacts = packed(bytes);
     let segs = closed_segs(contacts);
     if segs == 0 {
-        return NONE;
+        NONE
+    } else {
+        lowest(contacts, segs)
     }
-    lowest(contacts, segs)
 }
 
 // Result and last scan are the same address, and its code isn't held already.
 fn is_new_key(r: u8, keys: Keys) -> bool
     ensures { result ≡ S.new_key r keys }
 {
-    if r != keys.last {
-        return false;
-    }
-    if r == NONE {
-        return false;
-    }
-    keys.code as u16 != 64 + r as u16
+    r == keys.last && r != NONE && u16::from(keys.code) != 64 + u16::from(r)
 }
 
 // What a code that is recorded is told as: over an unread one, where an interrupt stood.
@@ -81,9 +69,10 @@ fn code_taken(stood: bool, code: u8) -> Recorded
     ensures { S.recording_of result ≡ S.code_taken stood code }
 {
     if stood {
-        return Recorded::OverUnread(code);
+        Recorded::OverUnread(code)
+    } else {
+        Recorded::Key(code)
     }
-    Recorded::Key(code)
 }
 
 // A key record after a scan, and what the scan recorded.
@@ -101,36 +90,18 @@ fn keyed(r: u8, keys: Keys) -> AfterKeys
 {
     let mut next = keys;
     next.last = r;
+    let mut recorded = Recorded::Nothing;
     if is_new_key(r, keys) {
         next.code = 64 + r;
         next.interrupt = true;
-        return AfterKeys {
-            keys: next,
-            recorded: code_taken(keys.interrupt, next.code),
-        };
+        recorded = code_taken(keys.interrupt, next.code);
+    } else if r == NONE && keys.last == NONE && base::field(u16::from(keys.code), 6, 1) == 1 {
+        next.code = keys.code - 64;
+        recorded = Recorded::Released;
     }
-    if r != NONE {
-        return AfterKeys {
-            keys: next,
-            recorded: Recorded::Nothing,
-        };
-    }
-    if keys.last != NONE {
-        return AfterKeys {
-            keys: next,
-            recorded: Recorded::Nothing,
-        };
-    }
-    if base::field(keys.code as u16, 6, 1) == 0 {
-        return AfterKeys {
-            keys: next,
-            recorded: Recorded::Nothing,
-        };
-    }
-    next.code = keys.code - 64;
     AfterKeys {
         keys: next,
-        recorded: Recorded::Released,
+        recorded,
     }
 }
 
@@ -142,43 +113,33 @@ pub struct AfterScan {
 }
 
 // A scan with a result: what it does to a chip, and what it records.
+#[tactic(auto, unfolding(crate::specs::Scans::scanned_by, crate::specs::Scans::recorded_by))]
 fn scanned_by(r: u8, chip: Chip) -> AfterScan
     requires { r ≤ 64 }
     ensures chip_value { result.chip ≡ S.scanned_by r chip }
     ensures recorded_value { S.recording_of result.recorded ≡ S.recorded_by r chip }
 {
-    let mut next = chip;
+    let mut after = AfterScan {
+        chip,
+        recorded: Recorded::Nothing,
+    };
     if chip.settings.sleeping {
         if r < 32 {
-            next.settings.sleeping = false;
-            next.keys.last = NONE;
+            after.chip.settings.sleeping = false;
+            after.chip.keys.last = NONE;
         }
-        return AfterScan {
-            chip: next,
-            recorded: Recorded::Nothing,
-        };
+    } else if chip.settings.system.keyb {
+        let AfterKeys { keys, recorded } = keyed(r, chip.keys);
+        after.chip.keys = keys;
+        after.recorded = recorded;
     }
-    if !chip.settings.system.keyb {
-        return AfterScan {
-            chip,
-            recorded: Recorded::Nothing,
-        };
-    }
-    let keys = chip.keys;
-    let t = keyed(r, keys);
-    let after = t.keys;
-    let what = t.recorded;
-    next.keys = after;
-    AfterScan {
-        chip: next,
-        recorded: what,
-    }
+    after
 }
 
 // One scan of a chip.
+#[tactic(auto, using(crate::proofs::Closed::result_le))]
 pub fn scanned(bytes: [u8; 8], chip: Chip) -> AfterScan
     ensures { S.leaves_of result ≡ S.scan_leaves bytes chip }
 {
-    let r = result(bytes);
-    scanned_by(r, chip)
+    scanned_by(result(bytes), chip)
 }

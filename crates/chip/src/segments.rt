@@ -3,6 +3,7 @@ ghost use Rattle.std.specs.Prelude.{◌≡◌, ◌<◌};
 ghost use Rattle.chip.specs.Segments as L;
 
 use crate::{Chip, Settings};
+use std::array;
 
 // Segments G to A of the BCD codes 00H to 1FH; the place of 1EH, the custom character, is not looked at.
 const SHAPES: [u8; 32] = [
@@ -11,72 +12,60 @@ const SHAPES: [u8; 32] = [
 ];
 
 // Segments G to A of a BCD code.
+#[tactic(auto, unfolding(crate::specs::Segments::shape))]
 fn shape(custom: u8, code: u8) -> u8
     requires { code < 32 }
     ensures { result ≡ L.shape custom code }
 {
     if code == 0x1E {
-        return base::field(custom as u16, 0, 7) as u8;
+        base::field(u16::from(custom), 0, 7) as u8
+    } else {
+        SHAPES[usize::from(code)]
     }
-    let at = code as usize;
-    SHAPES[at]
 }
 
 // The segments of a BCD byte: bits 4 to 0 choose the shape, bit 7 alone is the point.
+#[tactic(auto, using(crate::proofs::Shapes::shape_lt), unfolding(crate::specs::Segments::bcd))]
 fn bcd(custom: u8, byte: u8) -> u8
     ensures { result ≡ L.bcd custom byte }
 {
-    let wide = byte as u16;
+    let wide = u16::from(byte);
     let low = shape(custom, base::field(wide, 0, 5) as u8);
     if base::field(wide, 7, 1) == 1 {
-        return low + 128;
+        low + 128
+    } else {
+        low
     }
-    low
 }
 
 // Whether nothing of a digit is lit: DISP 0, asleep, or not below the limit.
 fn is_dark(s: Settings, dig: u8) -> bool
     ensures { result ≡ L.dark s dig }
 {
-    if !s.system.disp {
-        return true;
-    }
-    if s.sleeping {
-        return true;
-    }
-    if s.display.limit == 0 {
-        return dig >= 8;
-    }
-    dig >= s.display.limit
+    let limit = match s.display.limit {
+        0 => 8,
+        limit => limit,
+    };
+    !s.system.disp || s.sleeping || dig >= limit
 }
 
 // The segments lit of one digit.
+#[tactic(auto, unfolding(crate::specs::Segments::lit_digit))]
 fn lit_digit(s: Settings, dig: u8, byte: u8) -> u8
     ensures { result ≡ L.lit_digit s dig byte }
 {
     if is_dark(s, dig) {
-        return 0;
+        0
+    } else if s.display.mode {
+        bcd(s.custom, byte)
+    } else {
+        byte
     }
-    if s.display.mode {
-        return bcd(s.custom, byte);
-    }
-    byte
 }
 
 // The segments lit of all eight digits, DIG0 first.
 pub fn lit(chip: Chip) -> [u8; 8]
     ensures { result ≡ L.lit_of chip }
 {
-    let s = chip.settings;
-    let ds = chip.digits;
-    [
-        lit_digit(s, 0, ds[0]),
-        lit_digit(s, 1, ds[1]),
-        lit_digit(s, 2, ds[2]),
-        lit_digit(s, 3, ds[3]),
-        lit_digit(s, 4, ds[4]),
-        lit_digit(s, 5, ds[5]),
-        lit_digit(s, 6, ds[6]),
-        lit_digit(s, 7, ds[7]),
-    ]
+    array::from_fn(|dig| lit_digit(chip.settings, dig as u8, chip.digits[dig]))
 }

@@ -252,7 +252,7 @@ dark_before_sleep_of_calls n ch ws a out out' r count w e calls s rest below who
     let samples = ap (λ ss. ss ++ (s ∷ rest)) (samples_blocks calls) ∙ whole ∙ p.1 in
     let same : ch' ≡ happened n es ch = (demand_3_of_calls n ch ws a out out' r count w e calls (s ∷ rest) below whole ch' ran).chain in
     let played = (block_played n (room n ch ws asked) a.panel.count (s ∷ []) rest (happened n es ch) _ (in_between n ch ws asked es (s ∷ rest) samples)).0 in
-    let after_it : next.chain ≡ stepped_chain n s (happened n es ch) = ap (λ o. o.state) (contract ∙ ap (λ x. played_of n x (s ∷ [])) same ∙ played) in
+    let after_it : next.value ≡ stepped_chain n s (happened n es ch) = ap (λ o. o.state) (contract ∙ ap (λ x. played_of n x (s ∷ [])) same ∙ played) in
     subst (λ x. SwitchedDark (chip_at k x)) (sym same)
     (dark_before n ch ws asked es s rest below samples (subst (λ x. load_rises x.levels s ≡ true) same rises) k h
     (subst (λ x. (chip_at k x).settings.sleeping ≡ true) after_it sleeps))

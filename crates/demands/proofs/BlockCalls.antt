@@ -10,23 +10,17 @@ use lib.Dec.{T, leb, ltb}
 use lib.ListN.{length}
 use Rattle.base.specs.Pick.{pick}
 use Rattle.base.specs.declared.Refusal.TheVariants.{Sample, ScanChip, ChipCount, Room, Record}
-use Rattle.base.specs.declared.Verdict.{Verdict}
-use Rattle.base.specs.declared.Verdict.TheVariants as Verdicts
-use Rattle.base.specs.Refusals.{Told, IsDone, done, refused, verdict_tells, hands_back, once_tested}
-use Rattle.chip.specs.declared.ScanAnswer.{ScanAnswer}
-use Rattle.chip.specs.declared.ScanAnswer.TheVariants as Scans
+use Rattle.base.specs.Refusals.{Told, IsDone, done, refused, hands_back, once_tested, tells}
 use Rattle.chip.specs.Entries as One
 use Rattle.chip.specs.Scans.{recorded}
 use Rattle.chip.specs.Scans.{scanned as scanned_chip}
 use Rattle.chip.proofs.Unique.{record_of, recording_back}
 use Rattle.chain.specs.declared.Chain.{Chain}
-use Rattle.chain.specs.declared.blocks.Rises.{Rises}
-use Rattle.chain.specs.declared.blocks.Rises.TheVariants.{Count, Refused}
 use Rattle.chain.specs.Chain.{most, chip_count, valid_chain, tested_of, checked_from, played}
 use Rattle.chain.specs.Entries.{chip_at, with_chip, scanned_of}
 use Rattle.chain.specs.Events as Events
 use Rattle.chain.specs.Events.{sample, happened, ScansBelow}
-use Rattle.chain.specs.Blocks.{rises_in, rises_tell, block_of, list_of}
+use Rattle.chain.specs.Blocks.{rises_in, block_of, list_of}
 use Rattle.chain.proofs.Clocks.{held}
 use Rattle.chain.proofs.Histories.{played_happens}
 use Rattle.chain.proofs.Laws.{checked_below}
@@ -43,61 +37,65 @@ use Rattle.demands.proofs.Entries.{going_tested}
 use Rattle.demands.proofs.Calls.{checked_block, below_block, block_played, chip_scanned}
 use Rattle.demands.proofs.Whole.{demand_3_whole}
 use Rattle.demands.proofs.Blocks.{accepted}
+use Rattle.std.specs.declared.result.Result.{Result}
+use Rattle.std.specs.declared.result.Result.TheVariants.{Ok, Err}
+use Rattle.base.specs.declared.Refusal.{Refusal}
+use Rattle.chip.specs.declared.Recorded.{Recorded}
 
 -- ---- results
 
--- a test is told by a verdict
+-- a test is told by an answer
 Verdictly : Told (Unit {0}) → Type 0
-Verdictly t = (v : Verdict) × (verdict_tells v ≡ t)
+Verdictly t = (v : Result (Unit {0}) Refusal) × (tells v ≡ t)
 
 first_verdict : (n : ℕ) (ch : Chain) → Verdictly (tested_of n ch)
 unfolding Verdictly tested_of
 first_verdict n ch = go (chip_count n) (valid_chain n ch)
   where
     go : (a b : Bool) → Verdictly (pick a (pick b (done tt) (refused 12 0)) (refused 3 0))
-    go true true = (Verdicts.Done, refl)
-    go true false = (Verdicts.Refused Record, refl)
-    go false b = (Verdicts.Refused ChipCount, refl)
+    go true true = ((Ok tt), refl)
+    go true false = (Err Record, refl)
+    go false b = (Err ChipCount, refl)
 
 samples_verdict : (place : ℕ) (ss : List ℕ) → Verdictly (checked_from place ss)
 unfolding Verdictly checked_from
-samples_verdict place [] = (Verdicts.Done, refl)
+samples_verdict place [] = ((Ok tt), refl)
 samples_verdict place (s ∷ ss) = go (leb s 7) (samples_verdict (suc place) ss)
   where
     go : (b : Bool) {t : Told (Unit {0})} → Verdictly t → Verdictly (pick b t (refused 1 place))
     go true v = v
-    go false v = (Verdicts.Refused (Sample place), refl)
+    go false v = (Err (Sample place), refl)
 
--- a refusal by a verdict is one by an answer of rises, and of a scan
-rises_refused : (v : Verdict) {number place : ℕ} → verdict_tells v ≡ refused number place → (a : Rises) × (rises_tell a ≡ refused number place)
-rises_refused Verdicts.Done e = absurd (subst IsDone e tt)
-rises_refused (Verdicts.Refused x) e = (Refused x, ap₂ refused (ap number_in e) (ap place_in e))
+-- a refusal by a test's answer is one by an answer of rises, and of a scan
+rises_refused : (v : Result (Unit {0}) Refusal) {number place : ℕ} → tells v ≡ refused number place → (a : Result ℕ Refusal) × (tells a ≡ refused number place)
+rises_refused (Ok tt) e = absurd (subst IsDone e tt)
+rises_refused (Err x) e = (Err x, ap₂ refused (ap number_in e) (ap place_in e))
 
-scan_refused : (v : Verdict) {number place : ℕ} → verdict_tells v ≡ refused number place → (a : ScanAnswer) × (One.scan_tells a ≡ refused number place)
-scan_refused Verdicts.Done e = absurd (subst IsDone e tt)
-scan_refused (Verdicts.Refused x) e = (Scans.Refused x, ap₂ refused (ap number_in e) (ap place_in e))
+scan_refused : (v : Result (Unit {0}) Refusal) {number place : ℕ} → tells v ≡ refused number place → (a : Result Recorded Refusal) × (One.scan_tells a ≡ refused number place)
+scan_refused (Ok tt) e = absurd (subst IsDone e tt)
+scan_refused (Err x) e = (Err x, ap₂ refused (ap number_in e) (ap place_in e))
 
-some_rises : (n : ℕ) (ch : Chain) (ss list : List ℕ) → (a : Rises) × (rises_tell a ≡ (block_of n ch ss list).told)
+some_rises : (n : ℕ) (ch : Chain) (ss list : List ℕ) → (a : Result ℕ Refusal) × (tells a ≡ (block_of n ch ss list).told)
 unfolding Verdictly block_of
 some_rises n ch ss list = go (tested_of n ch) (checked_from 0 ss) (leb (length (rises_in ch ss)) (length list)) (first_verdict n ch) (samples_verdict 0 ss)
   where
     go : (t u : Told (Unit {0})) (b : Bool) → Verdictly t → Verdictly u
-        → (a : Rises)
-        × (rises_tell a ≡ (once_tested t ch (once_tested u ch (pick b (record { state = played n ss ch; told = done (length (rises_in ch ss)) }) (hands_back ch 8 0)))).told)
-    go (done x) (done y) true v w = (Count (length (rises_in ch ss)), refl)
-    go (done x) (done y) false v w = (Refused Room, refl)
+        → (a : Result ℕ Refusal)
+        × (tells a ≡ (once_tested t ch (once_tested u ch (pick b (record { state = played n ss ch; told = done (length (rises_in ch ss)) }) (hands_back ch 8 0)))).told)
+    go (done x) (done y) true v w = (Ok (length (rises_in ch ss)), refl)
+    go (done x) (done y) false v w = (Err Room, refl)
     go (done x) (refused number place) b v w = rises_refused w.0 w.1
     go (refused number place) u b v w = rises_refused v.0 v.1
 
-some_scan : (n : ℕ) (ch : Chain) (k : ℕ) (bytes : List ℕ) → (a : ScanAnswer) × (One.scan_tells a ≡ (scanned_of n ch k bytes).told)
+some_scan : (n : ℕ) (ch : Chain) (k : ℕ) (bytes : List ℕ) → (a : Result Recorded Refusal) × (One.scan_tells a ≡ (scanned_of n ch k bytes).told)
 unfolding Verdictly scanned_of
 some_scan n ch k bytes = go (tested_of n ch) (ltb k n) (first_verdict n ch)
   where
     go : (t : Told (Unit {0})) (b : Bool) → Verdictly t
-        → (a : ScanAnswer)
+        → (a : Result Recorded Refusal)
         × (One.scan_tells a ≡ (once_tested t ch (pick b (record { state = with_chip k (scanned_chip bytes (chip_at k ch)) ch; told = done (recorded bytes (chip_at k ch)) }) (hands_back ch 2 0))).told)
-    go (done x) true v = (Scans.Took (record_of (recorded bytes (chip_at k ch))), ap done (recording_back (recorded bytes (chip_at k ch))))
-    go (done x) false v = (Scans.Refused ScanChip, refl)
+    go (done x) true v = (Ok (record_of (recorded bytes (chip_at k ch))), ap done (recording_back (recorded bytes (chip_at k ch))))
+    go (done x) false v = (Err ScanChip, refl)
     go (refused number place) b v = scan_refused v.0 v.1
 
 pub sent_run : SentRun
@@ -106,12 +104,12 @@ sent_run n ch (block ss list ∷ sent) =
     let o = block_of n ch ss list in
     let a = some_rises n ch ss list in
     let later = sent_run n o.state sent in
-    (later.0, called (record { chain = o.state; answer = a.0 }) (list_of n ch ss list) (record { answer = λ i. record { state = o.state; told = a.1 i }; places = refl }) later.1)
+    (later.0, called (record { value = o.state; answer = a.0 }) (list_of n ch ss list) (record { answer = λ i. record { state = o.state; told = a.1 i }; places = refl }) later.1)
 sent_run n ch (scan k bytes ∷ sent) =
     let o = scanned_of n ch k bytes in
     let a = some_scan n ch k bytes in
     let later = sent_run n o.state sent in
-    (later.0, scanned (record { chain = o.state; answer = a.0 }) (λ i. record { state = o.state; told = a.1 i }) later.1)
+    (later.0, scanned (record { value = o.state; answer = a.0 }) (λ i. record { state = o.state; told = a.1 i }) later.1)
 
 -- ---- the third demand
 
@@ -135,13 +133,13 @@ module _ (n : ℕ) (fits : n ≤ most) (count : T (chip_count n)) where
       sends_ran rest next left (subst (λ x. Going n most x left more) (sym same) step.1) (below_block n ss (events_of (calls_of sent)) below)
       (subst (λ x. LongEnough n x sent) (sym a.chain) long.1) in (
         (a.answered, later.0),
-        Calls.played (record { chain = r.chain; answer = Verdicts.Done }) (ap (λ (x : Chain). record { state = x; told = done tt }) same ∙ sym step.0) later.1,
+        Calls.played (record { value = r.value; answer = (Ok tt) }) (ap (λ (x : Chain). record { state = x; told = done tt }) same ∙ sym step.0) later.1,
       )
   sends_ran rest {ch} (scanned {k = k} {bytes = bytes} {sent = sent} r contract next) rows g below long =
       let more = samples_of sent ++ rest in
       let step = chip_scanned n fits count k bytes more ch rows below.0 g in
       let whole = contract ∙ step.0 in
-      let same : r.chain ≡ happened n (Events.scan k bytes ∷ []) ch = ap (λ o. o.state) whole in
+      let same : r.value ≡ happened n (Events.scan k bytes ∷ []) ch = ap (λ o. o.state) whole in
       let later =
       sends_ran rest next rows (subst (λ x. Going n most x rows more) (sym same) step.1) below.1 (subst (λ x. LongEnough n x sent) (sym same) long) in
       ((subst IsDone (sym (ap (λ o. o.told) whole)) tt, later.0), Calls.scanned r contract later.1)

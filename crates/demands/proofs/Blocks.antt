@@ -15,39 +15,40 @@ use lib.Seq.{take_at}
 use Rattle.base.specs.Below.{AllBelow}
 use Rattle.base.specs.Lent.{laid}
 use Rattle.base.specs.Pick.{pick}
-use Rattle.base.specs.Refusals.{Told, IsDone, done, refused, Outcome, once_tested}
+use Rattle.base.specs.Refusals.{Told, IsDone, done, refused, Outcome, once_tested, tells}
 use Rattle.base.proofs.Lists.{below_front, below_back}
 use Rattle.chain.specs.declared.Chain.{Chain}
-use Rattle.chain.specs.declared.blocks.Rises.{Rises}
-use Rattle.chain.specs.declared.blocks.Rises.TheVariants.{Count, Refused}
-use Rattle.chain.specs.declared.blocks.AfterBlock.{AfterBlock}
 use Rattle.chain.specs.Chain.{chip_count, valid_chain, tested_of, checked_from, played}
-use Rattle.chain.specs.Blocks.{rises_from, rises_in, rises_tell, block_of, list_by, Blocks}
+use Rattle.chain.specs.Blocks.{rises_from, rises_in, block_of, list_by, Blocks}
 use Rattle.chain.proofs.Laws.{last_of, played_append, played_levels, played_valid, below_checked}
 use Rattle.chain.proofs.Passed.{tests_pass, block_done}
 use Rattle.chain.proofs.Rises.{rises_append, rises_moved}
 use Rattle.demands.specs.Blocks.{Sent, block, scan, samples_of, Sends, over, called, scanned, NoneRefused, LongEnough, BlocksOnly, places_of, places_in, CutLaw, accepted_of, accepted_in, CutException}
 use Rattle.demands.proofs.Unchanged.{block_kept, list_kept}
+use Rattle.std.specs.declared.result.Result.{Result}
+use Rattle.std.specs.declared.result.Result.TheVariants.{Ok, Err}
+use Rattle.base.specs.declared.Refusal.{Refusal}
+use Rattle.base.specs.declared.Handed.{Handed}
 
 -- ---- one accepted call
 
 -- an answer that tells a number of places
-places_count : (a : Rises) (list : List ℕ) (count : ℕ) → rises_tell a ≡ done count → places_of a list ≡ take count list
-places_count (Count c) list count e = let same : c ≡ count = cc in ap (λ m. take m list) same
-places_count (Refused x) list count e = absurd (subst IsDone (sym e) tt)
+places_count : (a : Result ℕ Refusal) (list : List ℕ) (count : ℕ) → tells a ≡ done count → places_of a list ≡ take count list
+places_count (Ok c) list count e = let same : c ≡ count = cc in ap (λ m. take m list) same
+places_count (Err x) list count e = absurd (subst IsDone (sym e) tt)
 
 -- a call whose samples and list are as they should be, of a panel that passes the first tests
-pub record Accepted (n : ℕ) (ch : Chain) (samples : List ℕ) (r : AfterBlock) (list' : List ℕ) : Type 0 where
-  pub answered : IsDone (rises_tell r.answer)
-  pub chain : r.chain ≡ played n samples ch
+pub record Accepted (n : ℕ) (ch : Chain) (samples : List ℕ) (r : Handed Chain ℕ) (list' : List ℕ) : Type 0 where
+  pub answered : IsDone (tells r.answer)
+  pub chain : r.value ≡ played n samples ch
   pub places : places_of r.answer list' ≡ rises_in ch samples
 
 pub accepted : (n : ℕ) (ch : Chain) → tested_of n ch ≡ done tt → (samples list : List ℕ) → AllBelow 8 samples → length (rises_in ch samples) ≤ length list
-    → (r : AfterBlock) (list' : List ℕ) → Blocks n ch samples list r list' → Accepted n ch samples r list'
+    → (r : Handed Chain ℕ) (list' : List ℕ) → Blocks n ch samples list r list' → Accepted n ch samples r list'
 accepted n ch tests samples list below room r list' b =
     let does = block_done n ch tests samples list (below_checked 0 samples below) room in
     let so = b.answer ∙ does in
-    let told : rises_tell r.answer ≡ done (length (rises_in ch samples)) = ap (λ o. o.told) so in
+    let told : tells r.answer ≡ done (length (rises_in ch samples)) = ap (λ o. o.told) so in
     let laid_so : list' ≡ laid (rises_in ch samples) list = b.places ∙ ap (λ (o : Outcome Chain ℕ). list_by o.told (rises_in ch samples) list) does in
     record {
       answered = subst IsDone (sym told) tt;
@@ -75,7 +76,7 @@ module _ (n : ℕ) (count : T (chip_count n)) where
       let later =
       cut (before + length ss) next (subst (λ x. T (valid_chain n x)) (sym same) (played_valid n ss ch first v)) only (below_back 8 ss (samples_of sent) below)
       (subst (λ x. LongEnough n x sent) (sym same) long.1) in
-      let levels : r.chain.levels ≡ last_of ch.levels ss = ap (λ x. x.levels) same ∙ played_levels n ss ch in
+      let levels : r.value.levels ≡ last_of ch.levels ss = ap (λ x. x.levels) same ∙ played_levels n ss ch in
       let zero_more : before + 0 ≡ before = omega arith in (
         (a.answered, later.0),
         later.1 ∙ ap (played n (samples_of sent)) same ∙ sym (played_append n ss (samples_of sent) ch),
@@ -112,24 +113,24 @@ block_plays n ch ss list =
     (does_after (checked_from 0 ss) ch _ (does_pick (leb (length (rises_in ch ss)) (length list)) _ _ (λ c e. refl) (λ c e. absurd (subst IsDone (sym e) tt))))
 
 -- one call more, by its answer
-one_call : (n : ℕ) (a : Rises) (ss rest list list' : List ℕ) (ch next end : Chain)
-    → ((count : ℕ) → rises_tell a ≡ done count → next ≡ played n ss ch)
-    → ((number place : ℕ) → rises_tell a ≡ refused number place → (next ≡ ch) × (list' ≡ list))
+one_call : (n : ℕ) (a : Result ℕ Refusal) (ss rest list list' : List ℕ) (ch next end : Chain)
+    → ((count : ℕ) → tells a ≡ done count → next ≡ played n ss ch)
+    → ((number place : ℕ) → tells a ≡ refused number place → (next ≡ ch) × (list' ≡ list))
     → end ≡ played n rest next
-    → (IsDone (rises_tell a) ⊎ ((next ≡ ch) × (list' ≡ list))) × (end ≡ played n (accepted_of a ss ++ rest) ch)
-one_call n (Count c) ss rest list list' ch next end f g e = (inl tt, e ∙ ap (played n rest) (f c refl) ∙ sym (played_append n ss rest ch))
-one_call n (Refused x) ss rest list list' ch next end f g e = (inr (g _ _ refl), e ∙ ap (played n rest) (g _ _ refl).0)
+    → (IsDone (tells a) ⊎ ((next ≡ ch) × (list' ≡ list))) × (end ≡ played n (accepted_of a ss ++ rest) ch)
+one_call n (Ok c) ss rest list list' ch next end f g e = (inl tt, e ∙ ap (played n rest) (f c refl) ∙ sym (played_append n ss rest ch))
+one_call n (Err x) ss rest list list' ch next end f g e = (inr (g _ _ refl), e ∙ ap (played n rest) (g _ _ refl).0)
 
 pub cut_exception : CutException
 unfolding played
 cut_exception n ch [] only ch' over = (tt, refl)
 cut_exception n ch (scan k bytes ∷ sent) only ch' ran = absurd only
 cut_exception n ch (block ss list ∷ sent) only ch' (called r list' contract next) =
-    let later = cut_exception n r.chain sent only ch' next in
+    let later = cut_exception n r.value sent only ch' next in
     let told = ap (λ o. o.told) contract.answer in
     let state = ap (λ o. o.state) contract.answer in
     let one =
-    one_call n r.answer ss (accepted_in next) list list' ch r.chain ch' (λ c e. state ∙ block_plays n ch ss list c (sym told ∙ e))
+    one_call n r.answer ss (accepted_in next) list list' ch r.value ch' (λ c e. state ∙ block_plays n ch ss list c (sym told ∙ e))
     (λ m q e. (state ∙ block_kept n ch ss list m q (sym told ∙ e), contract.places ∙ list_kept (block_of n ch ss list).told (rises_in ch ss) list (sym told ∙ e)))
     later.1 in
     ((one.0, later.0), one.1)

@@ -14,10 +14,8 @@ use Prim.Native.Nat.{ℕ, ◌≤◌, ◌<◌}
 use borrow.Author.Tests.{le-leb}
 use lib.Dec.{T}
 use lib.ListN.{take}
-use Rattle.base.specs.declared.Verdict.TheVariants as Verdicts
 use Rattle.base.specs.Refusals.{IsDone, done}
 use Rattle.base.proofs.Picks.{pick_yes}
-use Rattle.chip.specs.declared.ScanAnswer.TheVariants as Scans
 use Rattle.chip.specs.Record.{body_of}
 use Rattle.chip.specs.Edges.{din, load_rises}
 use Rattle.chip.specs.Scans.{recorded}
@@ -38,6 +36,7 @@ use Rattle.demands.proofs.Going.{Going, rows_left, going_on}
 use Rattle.demands.proofs.Demand3 as Three
 use Rattle.chain.proofs.Histories.{happened_append}
 use Rattle.demands.proofs.Entries.{going_tested, play_happens, scan_happens}
+use Rattle.std.specs.declared.result.Result.TheVariants.{Ok}
 
 -- ---- samples and blocks
 
@@ -98,7 +97,7 @@ module _ (n : ℕ) (fits : n ≤ most) (count : T (chip_count n)) where
       let more = blocks_of calls ++ rest in
       let step = block_played block more ch rows (subst (Going n most ch rows) (append_assoc block (blocks_of calls) rest) g) in
       let whole = contract ∙ step.0 in
-      let same : r.chain ≡ happened n (map sample block) ch = ap (λ o. o.state) whole in
+      let same : r.value ≡ happened n (map sample block) ch = ap (λ o. o.state) whole in
       let left = rows_left ch.levels rows (map sample block) in
       let going = subst (λ x. Going n most x left more) (sym same) step.1 in
       let later = ran_happened rest next left going (below_block n block (events_of calls) below) in (
@@ -109,7 +108,7 @@ module _ (n : ℕ) (fits : n ≤ most) (count : T (chip_count n)) where
       let more = blocks_of calls ++ rest in
       let step = chip_scanned k bytes more ch rows below.0 g in
       let whole = contract ∙ step.0 in
-      let same : r.chain ≡ happened n (Events.scan k bytes ∷ []) ch = ap (λ o. o.state) whole in
+      let same : r.value ≡ happened n (Events.scan k bytes ∷ []) ch = ap (λ o. o.state) whole in
       let later = ran_happened rest next rows (subst (λ x. Going n most x rows more) (sym same) step.1) below.1 in
       ((subst IsDone (sym (ap (λ o. o.told) whole)) tt, later.0), later.1 ∙ ap (happened n (events_of calls)) same)
 
@@ -123,14 +122,14 @@ module _ (n : ℕ) (fits : n ≤ most) (count : T (chip_count n)) where
       let step = block_played block more ch rows (subst (Going n most ch rows) (append_assoc block (blocks_of calls) rest) g) in
       let next = happened n (map sample block) ch in
       let later = run_calls rest calls next (rows_left ch.levels rows (map sample block)) step.1 (below_block n block (events_of calls) below) in
-      (later.0, played (record { chain = next; answer = Verdicts.Done }) (sym step.0) later.1)
+      (later.0, played (record { value = next; answer = (Ok tt) }) (sym step.0) later.1)
   run_calls rest (scan k bytes ∷ calls) ch rows g below =
       let more = blocks_of calls ++ rest in
       let step = chip_scanned k bytes more ch rows below.0 g in
       let next = happened n (Events.scan k bytes ∷ []) ch in
       let later = run_calls rest calls next rows step.1 below.1 in
       let what = recorded bytes (chip_at k ch) in
-      (later.0, scanned (record { chain = next; answer = Scans.Took (record_of what) }) (ap (λ w. record { state = next; told = done w }) (recording_back what) ∙ sym step.0) later.1)
+      (later.0, scanned (record { value = next; answer = Ok (record_of what) }) (ap (λ w. record { state = next; told = done w }) (recording_back what) ∙ sym step.0) later.1)
 
 -- ---- the theorem
 

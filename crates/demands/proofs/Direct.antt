@@ -7,7 +7,6 @@ use mathlib.Core.Bool.{Bool, true, false}
 use mathlib.Core.List.{List, [], ◌∷◌, ◌++◌}
 use Prim.Native.Nat.{ℕ}
 use lib.Dec.{T, eqb}
-use Rattle.base.specs.declared.Verdict.TheVariants as Verdicts
 use Rattle.base.specs.Refusals.{Told, done, refused, IsDone, Outcome}
 use Rattle.base.proofs.Picks.{pick_yes, pick_cases}
 use Rattle.base.proofs.Tests.{is_true}
@@ -15,7 +14,6 @@ use Rattle.word.specs.declared.Command.{Command}
 use Rattle.word.specs.Words.{decoded_of, legal}
 use Rattle.word.proofs.RoundTrips.{meaning_legal}
 use Rattle.chip.specs.declared.Chip.{Chip}
-use Rattle.chip.specs.declared.ScanAnswer.TheVariants as Scans
 use Rattle.chip.specs.Record.{valid}
 use Rattle.chip.specs.Commands as Commands
 use Rattle.chip.specs.Scans as Scanning
@@ -28,6 +26,7 @@ use Rattle.demands.specs.Events.{command_of, word_for, told_at, rows_after, step
 use Rattle.chain.specs.Events as Events
 use Rattle.chain.specs.Events.{Event, sample, scan_at}
 use Rattle.demands.specs.Direct.{Directly, over, applied, scanned, EachAccepted, AcceptedDirectly}
+use Rattle.std.specs.declared.result.Result.TheVariants.{Ok}
 
 -- a legal command
 abbrev pub Legal : Command → Type 0
@@ -55,12 +54,12 @@ each_accepted [] c v l end over = (tt, refl)
 each_accepted (told command ∷ steps) c v l end (applied r contract next) =
     let e = contract ∙ apply_done c command v l.0 in
     let same = ap (λ (o : Outcome Chip (Unit {0})). o.state) e in
-    let more = each_accepted steps r.chip (subst (λ d. T (valid d)) (sym same) (applied_valid command c l.0 v)) l.1 end next in
+    let more = each_accepted steps r.value (subst (λ d. T (valid d)) (sym same) (applied_valid command c l.0 v)) l.1 end next in
     ((is_done e, more.0), more.1 ∙ ap (after steps) same)
 each_accepted (scan bytes ∷ steps) c v l end (scanned r contract next) =
     let e = contract ∙ scan_done c bytes v in
     let same = ap (λ (o : Outcome Chip Scanning.Recording). o.state) e in
-    let more = each_accepted steps r.chip (subst (λ d. T (valid d)) (sym same) (scanned_valid bytes c v)) l end next in
+    let more = each_accepted steps r.value (subst (λ d. T (valid d)) (sym same) (scanned_valid bytes c v)) l end next in
     ((is_done e, more.0), more.1 ∙ ap (after steps) same)
 
 some_calls : (steps : List Step) (c : Chip) → T (valid c) → EachTold Legal steps → (end : Chip) × Directly c steps end
@@ -68,12 +67,12 @@ some_calls [] c v l = (c, over)
 some_calls (told command ∷ steps) c v l =
     let d = Commands.applied command c in
     let more = some_calls steps d (applied_valid command c l.0 v) l.1 in
-    (more.0, applied (record { chip = d; answer = Verdicts.Done }) (sym (apply_done c command v l.0)) more.1)
+    (more.0, applied (record { value = d; answer = (Ok tt) }) (sym (apply_done c command v l.0)) more.1)
 some_calls (scan bytes ∷ steps) c v l =
     let d = Scanning.scanned bytes c in
     let what = Scanning.recorded bytes c in
     let more = some_calls steps d (scanned_valid bytes c v) l in
-    (more.0, scanned (record { chip = d; answer = Scans.Took (record_of what) }) (ap (λ w. record { state = d; told = done w }) (recording_back what) ∙ sym (scan_done c bytes v)) more.1)
+    (more.0, scanned (record { value = d; answer = Ok (record_of what) }) (ap (λ w. record { state = d; told = done w }) (recording_back what) ∙ sym (scan_done c bytes v)) more.1)
 
 pub accepted_directly : (c : Chip) (steps : List Step) → T (valid c) → EachTold Legal steps → AcceptedDirectly c steps
 accepted_directly c steps v l = record { accepted = each_accepted steps c v l; some = some_calls steps c v l }

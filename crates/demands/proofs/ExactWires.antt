@@ -18,8 +18,6 @@ use Rattle.base.specs.Refusals.{Told, done, refused}
 use Rattle.base.proofs.Picks.{pick_yes, pick_no, pick_cases}
 use Rattle.base.proofs.Tests.{by_order}
 use Rattle.ch450.specs.declared.Panel.{Panel}
-use Rattle.ch450.specs.declared.commands.Meaning.{Meaning}
-use Rattle.ch450.specs.declared.commands.Meaning.TheVariants.{Means, Nothing}
 use Rattle.ch450.specs.Commands.{told_at, is_read}
 use Rattle.ch450.specs.Edges.{first_byte, second_byte}
 use Rattle.ch450.specs.Panel.{power_on, lit_of}
@@ -41,6 +39,10 @@ use Rattle.demands.proofs.Conditions.{leb_tests}
 use Rattle.demands.proofs.Outputs.{Plain, plain_none, plain_more, plain_line, refusal_tells, lines_length}
 use Rattle.demands.proofs.Readings.{of_contract}
 use Rattle.demands.proofs.WiresForms.{PanelView, gives, wrong, panel_view, WiresView, as_samples, as_none, wires_view}
+use Rattle.std.specs.declared.option.Option.{Option}
+use Rattle.std.specs.declared.option.Option.TheVariants.{Some}
+use Rattle.std.specs.declared.option.Option.TheVariants as Options
+use Rattle.ch450.specs.declared.Command.{Command}
 
 -- ---- the answer
 
@@ -71,14 +73,14 @@ wires_exact text = by_table (tested (all_end (lines_of text)) (leb_tests (length
 
 -- ---- what the output tells
 
-plain_obeyed : (what : Report) (key first second : ℕ) (told : Meaning) (p : Panel) → Plain (obeyed_lines what key first second told p)
+plain_obeyed : (what : Report) (key first second : ℕ) (told : Option Command) (p : Panel) → Plain (obeyed_lines what key first second told p)
 unfolding hex_of
-plain_obeyed what key first second Nothing p = plain_none
-plain_obeyed Commands key first second (Means command) p =
-    plain_more (line_for (0x42 ∷ first ∷ second ∷ [])) (pick (is_read (Means command)) (line_for (0x43 ∷ key ∷ [])) [])
+plain_obeyed what key first second Options.None p = plain_none
+plain_obeyed Commands key first second (Some command) p =
+    plain_more (line_for (0x42 ∷ first ∷ second ∷ [])) (pick (is_read (Some command)) (line_for (0x43 ∷ key ∷ [])) [])
     (plain_line 0x42 (first ∷ second ∷ []) refl)
-    (pick_cases Plain (is_read (Means command)) (λ e. plain_line 0x43 (key ∷ []) refl) (λ e. plain_none))
-plain_obeyed Screen key first second (Means command) p = plain_line 0x44 (lit_of p) refl
+    (pick_cases Plain (is_read (Some command)) (λ e. plain_line 0x43 (key ∷ []) refl) (λ e. plain_none))
+plain_obeyed Screen key first second (Some command) p = plain_line 0x44 (lit_of p) refl
 
 plain_written : (what : Report) (key : ℕ) (ss : List ℕ) (p : Panel) → Plain (written_by what key ss p)
 unfolding written_by

@@ -13,10 +13,9 @@ use borrow.Author.Tests.{le-leb}
 use lib.Dec.{T}
 use lib.ListN.{length, get_or-replicate}
 use Rattle.base.specs.Below.{AllBelow}
-use Rattle.base.specs.declared.Verdict.TheVariants as Verdicts
-use Rattle.base.specs.Refusals.{Told, IsDone, done, refused, Outcome, verdict_tells}
+use Rattle.base.specs.Refusals.{Told, IsDone, done, refused, Outcome, tells, handed}
 use Rattle.base.proofs.Picks.{pick_yes}
-use Rattle.base.proofs.Unique.{same_verdict}
+use Rattle.base.proofs.Unique.{same_result}
 use Rattle.chip.specs.Record.{reset_chip}
 use Rattle.chain.specs.Chain.{most, played}
 use Rattle.chain.specs.Entries.{start_chain, chip_at}
@@ -28,11 +27,9 @@ use Rattle.writer.specs.Rows as Rows
 use Rattle.writer.specs.Written as Writer
 use Rattle.writer.proofs.Answered.{number_told}
 use Rattle.settings.specs.declared.Kiosk.{Kiosk}
-use Rattle.settings.specs.declared.Put.{Put}
-use Rattle.settings.specs.declared.Put.TheVariants.{Count, Refused}
 use Rattle.settings.specs.Printing.{kiosk_words, setup_of, again_end, setup_end, out_by, Prints}
-use Rattle.settings.specs.Putting.{put_tells, settings_test, answer_by, buffer_by, Fits}
-use Rattle.settings.specs.Reading.{read_of, handed_kiosk}
+use Rattle.settings.specs.Putting.{settings_test, answer_by, buffer_by, Fits}
+use Rattle.settings.specs.Reading.{read_of}
 use Rattle.settings.specs.Settings.{text_of}
 use Rattle.settings.proofs.Beginnings.{first_decides}
 use Rattle.settings.proofs.CaptureLines.{capture_first, capture_ends, capture_plays}
@@ -55,22 +52,25 @@ use Rattle.demands.proofs.SettingsRows.{few}
 use Rattle.demands.proofs.SettingsSet.{own_set, settings_set}
 use Rattle.demands.proofs.SettingsUnchanged.{at_front, printed}
 use Rattle.demands.proofs.Shown.{no_scan}
+use Rattle.std.specs.declared.result.Result.{Result}
+use Rattle.std.specs.declared.result.Result.TheVariants.{Ok, Err}
+use Rattle.base.specs.declared.Refusal.{Refusal}
 
 -- ---- answers
 
 -- an answer that tells a number
-put_told : (r : Put) (m : ℕ) → put_tells r ≡ done m → r ≡ Count m
-put_told (Count count) m e = let same : count ≡ m = cc in ap Count same
-put_told (Refused why) m e = absurd (subst IsDone (sym e) tt)
+put_told : (r : Result ℕ Refusal) (m : ℕ) → tells r ≡ done m → r ≡ Ok m
+put_told (Ok count) m e = let same : count ≡ m = cc in ap Ok same
+put_told (Err why) m e = absurd (subst IsDone (sym e) tt)
 
 -- a number is told: the test was passed, and it is the piece's
 fits_told : (t : Told (Unit {0})) (piece out : List ℕ) (count : ℕ) → answer_by t piece out ≡ done count → (t ≡ done tt) × (length piece ≡ count)
 fits_told (refused number place) piece out = number_told (refused number place) (length piece) (length out)
 fits_told (done u) piece out = number_told (done u) (length piece) (length out)
 
-module _ (kiosk : Kiosk) (piece out : List ℕ) {r : Put} {out' : List ℕ} {count : ℕ} (w : Fits kiosk piece out r out') (e : r ≡ Count count) where
+module _ (kiosk : Kiosk) (piece out : List ℕ) {r : Result ℕ Refusal} {out' : List ℕ} {count : ℕ} (w : Fits kiosk piece out r out') (e : r ≡ Ok count) where
   told : answer_by (settings_test kiosk) piece out ≡ done count
-  told = sym w.answer ∙ ap put_tells e
+  told = sym w.answer ∙ ap tells e
 
   fits_legal : settings_test kiosk ≡ done tt
   fits_legal = (fits_told (settings_test kiosk) piece out count told).0
@@ -84,22 +84,22 @@ pub one_text : OneText
 one_text =
     record {
       written_reads = λ kiosk size out out' w count c e r reads.
-          let back : handed_kiosk r ≡ _ =
+          let back : handed r ≡ _ =
           reads ∙ ap read_of (fits_front kiosk (text_of kiosk) out c e).front ∙ written_reads_lem kiosk (fits_legal kiosk (text_of kiosk) out c e) size in
           record {
-            answer = same_verdict (ap (λ (o : Outcome Kiosk (Unit {0})). o.told) back);
+            answer = same_result (ap (λ (o : Outcome Kiosk (Unit {0})). o.told) back);
             same = ap (λ (o : Outcome Kiosk (Unit {0})). o.state) back;
           };
       read_writes = λ text r reads d out out' w c room.
-          let so = read_written text r.kiosk (read_done text reads d) in
-          let piece = text_of r.kiosk in
+          let so = read_written text r.value (read_done text reads d) in
+          let piece = text_of r.value in
           let fits : length piece ≤ length out = subst (λ xs. length xs ≤ length out) (sym so.0) room in
-          let answer : put_tells w ≡ done (length piece) =
+          let answer : tells w ≡ done (length piece) =
           c.answer ∙ ap (λ t. answer_by t piece out) so.1 ∙ pick_yes _ _ (le-leb (length piece) (length out) fits) in
           let number = put_told w (length piece) answer in
           record {
-            answer = number ∙ ap (λ xs. Count (length xs)) so.0;
-            front = subst (λ xs. AtFront xs out out' (length xs)) so.0 (fits_front r.kiosk piece out c number);
+            answer = number ∙ ap (λ xs. Ok (length xs)) so.0;
+            front = subst (λ xs. AtFront xs out out' (length xs)) so.0 (fits_front r.value piece out c number);
           };
     }
 
@@ -119,10 +119,10 @@ handed_set kiosk size words words' p many f e ch asked out out' r count w q call
 -- ---- a text that is printed again
 
 -- what is printed of a text that isn't refused
-done_front : (end : Told (Unit {0})) (piece out : List ℕ) {r : _} {out' : List ℕ} → Prints end piece out r out' → r.answer ≡ Verdicts.Done
+done_front : (end : Told (Unit {0})) (piece out : List ℕ) {r : _} {out' : List ℕ} → Prints end piece out r out' → r.answer ≡ (Ok tt)
     → (end ≡ done tt) × AtFront piece out out' r.bytes
 done_front end piece out p d =
-    let so = sym p.answer ∙ ap verdict_tells d in
+    let so = sym p.answer ∙ ap tells d in
     (so, printed end piece piece out (ap (λ t. out_by t piece) so) p.count p.bytes)
 
 pub again_same : AgainSame
@@ -167,7 +167,7 @@ module _ (kiosk : Kiosk) (a : AskedKiosk kiosk) (accepted : list_test kiosk.n (k
       record {
         chips = capture_first n count ss small;
         taken = λ what out out' r p.
-            same_verdict (p.answer ∙ capture_ends n count ss small (omega (arith, setup_length kiosk a.legal a.places)));
+            same_result (p.answer ∙ capture_ends n count ss small (omega (arith, setup_length kiosk a.legal a.places)));
         sets = λ what k h.
             subst (λ ch. EndsWith (kept_at k kiosk) reset_chip (chip_at k ch)) (sym (capture_plays n count ss small what start_chain)) (started_set k h);
       }

@@ -14,7 +14,7 @@ use native.Mathlib.Omega.{arith}
 use borrow.Author.Tests.{le-leb}
 use lib.ListN.{length, get_or}
 use lib.Seq.{get_or-take}
-use Rattle.base.specs.Refusals.{done, refused}
+use Rattle.base.specs.Refusals.{done, refused, tells}
 use Rattle.base.proofs.Picks.{pick_yes}
 use Rattle.base.proofs.Tests.{by_order}
 use Rattle.word.specs.Words.{decoded_of}
@@ -22,11 +22,9 @@ use Rattle.chip.specs.declared.Chip.{Chip}
 use Rattle.chip.specs.History.{Step, after}
 use Rattle.chip.specs.Record.{Body, body_of}
 use Rattle.chain.specs.Entries.{chip_at}
-use Rattle.writer.specs.declared.Written.{Written}
-use Rattle.writer.specs.declared.Written.TheVariants.{Samples, Refused}
 use Rattle.writer.specs.Rows.{width, for_last, words_from, list_test}
 use Rattle.writer.specs.Rows as Rows
-use Rattle.writer.specs.Written.{written_tells, room, answer_by, answer_of}
+use Rattle.writer.specs.Written.{room, answer_by, answer_of}
 use Rattle.settings.specs.declared.Kept.{Kept}
 use Rattle.settings.specs.declared.Kiosk.{Kiosk}
 use Rattle.settings.specs.declared.Part.{Part}
@@ -42,6 +40,9 @@ use Rattle.demands.proofs.Accepted.{Fit, Fits, rows_accepted}
 use Rattle.demands.proofs.OneChipSet.{four_parts, four_set}
 use Rattle.demands.proofs.SettingsRows.{whole, kept_legal, others, first_row, last_place, early_place, off_or_last, four_rows, rows_tested, row_means, row_passes, row_refused}
 use Rattle.demands.proofs.Whole.{undone, demand_3_whole}
+use Rattle.std.specs.declared.result.Result.{Result}
+use Rattle.std.specs.declared.result.Result.TheVariants.{Ok, Err}
+use Rattle.base.specs.declared.Refusal.{Refusal}
 
 -- ---- the settings of the chips below N
 
@@ -83,9 +84,9 @@ settings_set kiosk a ch asked out out' r count w e calls below samples ch' ran k
 -- ---- the writer
 
 -- an answer that tells a number
-samples_told : (r : Written) (m : ℕ) → written_tells r ≡ done m → r ≡ Samples m
-samples_told (Samples count) m e = let same : count ≡ m = cc in ap Samples same
-samples_told (Refused why) m e = let z : ◌≡◌ {A = ℕ} 0 1 = cc in absurd (omega arith)
+samples_told : (r : Result ℕ Refusal) (m : ℕ) → tells r ≡ done m → r ≡ Ok m
+samples_told (Ok count) m e = let same : count ≡ m = cc in ap Ok same
+samples_told (Err why) m e = let z : ◌≡◌ {A = ℕ} 0 1 = cc in absurd (omega arith)
 
 module _ (kiosk : Kiosk) (a : AskedKiosk kiosk) where
   abbrev n : ℕ

@@ -20,7 +20,6 @@ use Rattle.base.proofs.Picks.{pick_yes}
 use Rattle.base.proofs.Tests.{is_true}
 use Rattle.word.specs.declared.Command.{Command}
 use Rattle.word.specs.declared.Command.TheVariants.{NoOperation, Reset, SystemParameters, LoadDigit}
-use Rattle.word.specs.declared.Encoded.TheVariants.{Word}
 use Rattle.word.specs.Words.{encoded_of, word_of, legal}
 use Rattle.word.proofs.RoundTrips.{command_back}
 use Rattle.chip.specs.declared.Chip.{Chip}
@@ -46,6 +45,7 @@ use Rattle.demands.proofs.Corollaries.{own_words, scans_own}
 use Rattle.chain.proofs.Histories.{played_happens}
 use Rattle.demands.proofs.Calls.{samples_block}
 use Rattle.demands.proofs.Whole.{commands_told}
+use Rattle.std.specs.declared.result.Result.TheVariants.{Ok}
 
 -- ---- commands that any chip may be sent
 
@@ -153,7 +153,7 @@ encodes_each : (cs : List Command) → Each cs → Encodes cs (map word_of cs)
 unfolding encoded_of
 encodes_each [] p = tt
 encodes_each (c ∷ cs) p = (
-  record { answer = Word (word_of c); contract = sym (pick_yes _ _ (is_true (legal c) p.0.0)); word = refl },
+  record { answer = Ok (word_of c); contract = sym (pick_yes _ _ (is_true (legal c) p.0.0)); word = refl },
   encodes_each cs p.1,
 )
 

@@ -16,12 +16,11 @@ use lib.Dec.{T}
 use lib.ListN.{length, get_or, take, drop, length-drop}
 use lib.Seq.{get_or-take, get_or-drop}
 use Rattle.base.specs.Pick.{pick}
-use Rattle.base.specs.Refusals.{done, refused}
+use Rattle.base.specs.Refusals.{done, refused, tells}
 use Rattle.base.proofs.Tests.{and_left, and_right}
 use Rattle.word.specs.declared.Command.{Command}
 use Rattle.word.specs.declared.Command.TheVariants.{NoOperation}
 use Rattle.word.specs.Words.{decoded_of, encoded_of, word_of, legal}
-use Rattle.word.specs.Answers.{encoded_tells}
 use Rattle.word.proofs.RoundTrips.{command_back}
 use Rattle.chip.specs.declared.Chip.{Chip}
 use Rattle.chip.specs.Record.{valid, body_of, reset_chip}
@@ -123,7 +122,7 @@ word_so false c w e f = let z : ◌≡◌ {A = ℕ} 0 1 = cc in absurd (omega ar
 encoding_means : (c : Command) (w : ℕ) → Encoding c w → decoded_of w ≡ done c
 unfolding encoded_of
 encoding_means c w y =
-    let both = word_so (legal c) c w refl (sym y.contract ∙ ap encoded_tells y.word) in
+    let both = word_so (legal c) c w refl (sym y.contract ∙ ap tells y.word) in
     ap decoded_of (sym both.1) ∙ command_back c both.0
 
 encodes_length : (cs : List Command) (ws : List ℕ) → Encodes cs ws → length cs ≡ length ws

@@ -12,15 +12,17 @@ use Rattle.chip.specs.Edges.{load_rises}
 use Rattle.chip.specs.Scans.{nothing, recorded}
 use Rattle.chip.specs.Segments.{lit_of}
 use Rattle.chain.specs.declared.Chain.{Chain}
-use Rattle.chain.specs.declared.HandedChain.{HandedChain}
-use Rattle.chain.specs.Entries.{chip_at, handed_chain, start_chain, played_of}
+use Rattle.chain.specs.Entries.{chip_at, start_chain, played_of}
 use Rattle.chain.specs.Events.{Event, sample, happened, samples_in, ScansBelow}
-use Rattle.writer.specs.declared.Written.{Written}
-use Rattle.writer.specs.declared.Written.TheVariants.{Samples}
 use Rattle.writer.specs.Rows.{written}
 use Rattle.writer.specs.Written.{Writes}
 use Rattle.demands.specs.Demand3.{AskedChain, Asked}
 use Rattle.demands.specs.Calls.{Call, events_of, blocks_of, Ran}
+use Rattle.std.specs.declared.result.Result.{Result}
+use Rattle.base.specs.declared.Refusal.{Refusal}
+use Rattle.base.specs.declared.Handed.{Handed}
+use Rattle.base.specs.Refusals.{handed}
+use Rattle.std.specs.declared.result.Result.TheVariants.{Ok}
 
 -- DISP and KEYB are 0; so no segment is lit, and no scan records a key, whatever contacts are closed
 pub record SwitchedDark (c : Chip) : Type 0 where
@@ -48,17 +50,17 @@ abbrev pub DarkBeforeSleepOfCalls : Type 0
 DarkBeforeSleepOfCalls =
     (n : ℕ) (ch : Chain) (ws : List ℕ)
     → AskedChain n ch
-    → (out out' : List ℕ) (r : Written) (count : ℕ)
+    → (out out' : List ℕ) (r : Result ℕ Refusal) (count : ℕ)
     → Writes n ws out r out'
-    → r ≡ Samples count
+    → r ≡ Ok count
     → (calls : List Call) (s : ℕ) (rest : List ℕ)
     → ScansBelow n (events_of calls)
     → blocks_of calls ++ (s ∷ rest) ≡ take count out'
     → (ch' : Chain) → Ran n ch calls ch'
-    → (next : HandedChain) → handed_chain next ≡ played_of n ch' (s ∷ [])
+    → (next : Handed Chain (Unit {0})) → handed next ≡ played_of n ch' (s ∷ [])
     → load_rises ch'.levels s ≡ true
     → (k : ℕ) → k < n
-    → (chip_at k next.chain).settings.sleeping ≡ true
+    → (chip_at k next.value).settings.sleeping ≡ true
     → SwitchedDark (chip_at k ch')
 
 -- and there are such plays: all that is asked above holds of some list for one chip as `start` gives it, at its last sample

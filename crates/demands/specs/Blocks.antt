@@ -13,23 +13,23 @@
 -- Assumes nothing.
 use Rattle.std.specs.Prelude.{◌≡◌, ◌⊎◌, ◌↔◌, List, [], ◌∷◌, ◌++◌, map, ℕ, suc, ◌+◌, ◌≤◌, ◌<◌, T, length, take}
 use Rattle.base.specs.Below.{AllBelow}
-use Rattle.base.specs.Refusals.{IsDone}
+use Rattle.base.specs.Refusals.{IsDone, tells}
 use Rattle.chain.specs.declared.Chain.{Chain}
-use Rattle.chain.specs.declared.blocks.Rises.{Rises}
-use Rattle.chain.specs.declared.blocks.Rises.TheVariants.{Count, Refused}
-use Rattle.chain.specs.declared.blocks.AfterBlock.{AfterBlock}
-use Rattle.chain.specs.declared.one.Scanned.{Scanned}
 use Rattle.chain.specs.Chain.{chip_count, valid_chain, played}
-use Rattle.chain.specs.Entries.{handed_scan, scanned_of}
+use Rattle.chain.specs.Entries.{scanned_of}
 use Rattle.chain.specs.Events as Events
-use Rattle.chain.specs.Blocks.{rises_from, rises_in, rises_tell, Blocks}
-use Rattle.writer.specs.declared.Written.{Written}
-use Rattle.writer.specs.declared.Written.TheVariants.{Samples}
+use Rattle.chain.specs.Blocks.{rises_from, rises_in, Blocks}
 use Rattle.writer.specs.Written.{Writes}
 use Rattle.demands.specs.Demand3.{AskedChain}
 use Rattle.demands.specs.Calls.{Call, Ran, events_of, blocks_of}
 use Rattle.demands.specs.Calls as Calls
 use Rattle.demands.specs.Whole.{RisesAt, WholePlay}
+use Rattle.std.specs.declared.result.Result.{Result}
+use Rattle.std.specs.declared.result.Result.TheVariants.{Ok, Err}
+use Rattle.base.specs.declared.Refusal.{Refusal}
+use Rattle.base.specs.declared.Handed.{Handed}
+use Rattle.chip.specs.declared.Recorded.{Recorded}
+use Rattle.chip.specs.Entries.{handed_scan}
 
 -- ---- the places of one block
 
@@ -69,19 +69,19 @@ samples_of sent = blocks_of (calls_of sent)
 -- results of calls, in order, each as the contract of its entry allows it for the record that the call before handed back
 pub data Sends (n : ℕ) : Chain → List Sent → Chain → Type 0 where
   over : {ch : Chain} → Sends n ch [] ch
-  called : {ch ch' : Chain} {samples list : List ℕ} {sent : List Sent} (r : AfterBlock) (list' : List ℕ)
+  called : {ch ch' : Chain} {samples list : List ℕ} {sent : List Sent} (r : Handed Chain ℕ) (list' : List ℕ)
       → Blocks n ch samples list r list'
-      → Sends n r.chain sent ch'
+      → Sends n r.value sent ch'
       → Sends n ch (block samples list ∷ sent) ch'
-  scanned : {ch ch' : Chain} {k : ℕ} {bytes : List ℕ} {sent : List Sent} (r : Scanned)
+  scanned : {ch ch' : Chain} {k : ℕ} {bytes : List ℕ} {sent : List Sent} (r : Handed Chain Recorded)
       → handed_scan r ≡ scanned_of n ch k bytes
-      → Sends n r.chain sent ch'
+      → Sends n r.value sent ch'
       → Sends n ch (scan k bytes ∷ sent) ch'
 
 -- no call was refused
 abbrev pub NoneRefused : {n : ℕ} {ch ch' : Chain} {sent : List Sent} → Sends n ch sent ch' → Type 0
 NoneRefused over = Unit {0}
-NoneRefused (called r list' contract next) = IsDone (rises_tell r.answer) × NoneRefused next
+NoneRefused (called r list' contract next) = IsDone (tells r.answer) × NoneRefused next
 NoneRefused (scanned r contract next) = IsDone (handed_scan r).told × NoneRefused next
 
 -- ---- cutting a recording
@@ -99,9 +99,9 @@ BlocksOnly (block samples list ∷ sent) = BlocksOnly sent
 BlocksOnly (scan k bytes ∷ sent) = ⊥
 
 -- the places that a call wrote: as many at the front of its list as it counted; a refused one wrote none
-abbrev pub places_of : Rises → List ℕ → List ℕ
-places_of (Count count) list = take count list
-places_of (Refused e) list = []
+abbrev pub places_of : Result ℕ Refusal → List ℕ → List ℕ
+places_of (Ok count) list = take count list
+places_of (Err e) list = []
 
 -- those of all calls, the lengths of the blocks before added, joined; so many samples came before the first
 abbrev pub places_in : {n : ℕ} {ch ch' : Chain} {sent : List Sent} → ℕ → Sends n ch sent ch' → List ℕ
@@ -110,10 +110,10 @@ places_in before (called {samples = samples} r list' contract next) = map (λ p.
 places_in before (scanned r contract next) = places_in before next
 
 -- blocks, and one call over the whole: neither is refused, the record is the same and so are the places
-pub record CutAlike {n : ℕ} {ch ch' : Chain} {sent : List Sent} (ran : Sends n ch sent ch') (r : AfterBlock) (list' : List ℕ) : Type 0 where
+pub record CutAlike {n : ℕ} {ch ch' : Chain} {sent : List Sent} (ran : Sends n ch sent ch') (r : Handed Chain ℕ) (list' : List ℕ) : Type 0 where
   pub accepted : NoneRefused ran
-  pub whole : IsDone (rises_tell r.answer)
-  pub ends : ch' ≡ r.chain
+  pub whole : IsDone (tells r.answer)
+  pub ends : ch' ≡ r.value
   pub places : places_in 0 ran ≡ places_of r.answer list'
 
 -- blocks of any lengths, empty ones too, all samples at most 7, each list long enough
@@ -127,7 +127,7 @@ CutLaw =
     → AllBelow 8 (samples_of sent)
     → LongEnough n ch sent
     → (ch' : Chain) (ran : Sends n ch sent ch')
-    → (list list' : List ℕ) (r : AfterBlock)
+    → (list list' : List ℕ) (r : Handed Chain ℕ)
     → Blocks n ch (samples_of sent) list r list'
     → length (rises_in ch (samples_of sent)) ≤ length list
     → CutAlike ran r list'
@@ -137,13 +137,13 @@ CutLaw =
 -- each call of `block` was accepted, or left the record and its list as they were
 abbrev pub RefusedAlone : {n : ℕ} {ch ch' : Chain} {sent : List Sent} → Sends n ch sent ch' → Type 0
 RefusedAlone over = Unit {0}
-RefusedAlone (called {ch = ch} {list = list} r list' contract next) = (IsDone (rises_tell r.answer) ⊎ ((r.chain ≡ ch) × (list' ≡ list))) × RefusedAlone next
+RefusedAlone (called {ch = ch} {list = list} r list' contract next) = (IsDone (tells r.answer) ⊎ ((r.value ≡ ch) × (list' ≡ list))) × RefusedAlone next
 RefusedAlone (scanned r contract next) = RefusedAlone next
 
 -- the samples of a call that was accepted
-abbrev pub accepted_of : Rises → List ℕ → List ℕ
-accepted_of (Count count) samples = samples
-accepted_of (Refused e) samples = []
+abbrev pub accepted_of : Result ℕ Refusal → List ℕ → List ℕ
+accepted_of (Ok count) samples = samples
+accepted_of (Err e) samples = []
 
 -- those of all accepted calls, joined
 abbrev pub accepted_in : {n : ℕ} {ch ch' : Chain} {sent : List Sent} → Sends n ch sent ch' → List ℕ
@@ -165,9 +165,9 @@ abbrev pub Demand3Blocks : Type 0
 Demand3Blocks =
     (n : ℕ) (ch : Chain) (ws : List ℕ)
     → AskedChain n ch
-    → (out out' : List ℕ) (r : Written) (count : ℕ)
+    → (out out' : List ℕ) (r : Result ℕ Refusal) (count : ℕ)
     → Writes n ws out r out'
-    → r ≡ Samples count
+    → r ≡ Ok count
     → (sent : List Sent)
     → Events.ScansBelow n (events_of (calls_of sent))
     → samples_of sent ≡ take count out'

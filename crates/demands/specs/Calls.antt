@@ -7,21 +7,23 @@
 --     CallsRun                     the calls that it speaks of have results, so it is about something
 -- Assumes nothing.
 use Rattle.std.specs.Prelude.{◌≡◌, List, [], ◌∷◌, ◌++◌, map, ℕ, ◌<◌, take}
-use Rattle.base.specs.Refusals.{IsDone}
+use Rattle.base.specs.Refusals.{IsDone, handed}
 use Rattle.chip.specs.Record.{body_of}
 use Rattle.chip.specs.History.{after}
 use Rattle.chain.specs.declared.Chain.{Chain}
-use Rattle.chain.specs.declared.HandedChain.{HandedChain}
-use Rattle.chain.specs.declared.one.Scanned.{Scanned}
-use Rattle.chain.specs.Entries.{chip_at, handed_chain, played_of, handed_scan, scanned_of}
-use Rattle.writer.specs.declared.Written.{Written}
-use Rattle.writer.specs.declared.Written.TheVariants.{Samples}
+use Rattle.chain.specs.Entries.{chip_at, played_of, scanned_of}
 use Rattle.writer.specs.Rows.{rows_of}
 use Rattle.writer.specs.Written.{Writes}
 use Rattle.demands.specs.Demand3.{AskedChain}
 use Rattle.demands.specs.Events.{steps_for}
 use Rattle.chain.specs.Events as Events
 use Rattle.chain.specs.Events.{Event, sample, happened, ScansBelow}
+use Rattle.std.specs.declared.result.Result.{Result}
+use Rattle.base.specs.declared.Refusal.{Refusal}
+use Rattle.base.specs.declared.Handed.{Handed}
+use Rattle.chip.specs.declared.Recorded.{Recorded}
+use Rattle.chip.specs.Entries.{handed_scan}
+use Rattle.std.specs.declared.result.Result.TheVariants.{Ok}
 
 -- ---- calls
 
@@ -47,19 +49,19 @@ blocks_of (scan k bytes ∷ calls) = blocks_of calls
 -- results of calls, in order, each as the contract of its entry allows it for the chain that the call before handed back
 pub data Ran (n : ℕ) : Chain → List Call → Chain → Type 0 where
   over : {ch : Chain} → Ran n ch [] ch
-  played : {ch ch' : Chain} {block : List ℕ} {calls : List Call} (r : HandedChain)
-      → handed_chain r ≡ played_of n ch block
-      → Ran n r.chain calls ch'
+  played : {ch ch' : Chain} {block : List ℕ} {calls : List Call} (r : Handed Chain (Unit {0}))
+      → handed r ≡ played_of n ch block
+      → Ran n r.value calls ch'
       → Ran n ch (play block ∷ calls) ch'
-  scanned : {ch ch' : Chain} {k : ℕ} {bytes : List ℕ} {calls : List Call} (r : Scanned)
+  scanned : {ch ch' : Chain} {k : ℕ} {bytes : List ℕ} {calls : List Call} (r : Handed Chain Recorded)
       → handed_scan r ≡ scanned_of n ch k bytes
-      → Ran n r.chain calls ch'
+      → Ran n r.value calls ch'
       → Ran n ch (scan k bytes ∷ calls) ch'
 
 -- no call was refused
 abbrev pub AllDone : {n : ℕ} {ch ch' : Chain} {calls : List Call} → Ran n ch calls ch' → Type 0
 AllDone over = Unit {0}
-AllDone (played r contract next) = IsDone (handed_chain r).told × AllDone next
+AllDone (played r contract next) = IsDone (handed r).told × AllDone next
 AllDone (scanned r contract next) = IsDone (handed_scan r).told × AllDone next
 
 -- ---- the statement
@@ -77,9 +79,9 @@ abbrev OfCalls : ((n : ℕ) → Chain → List ℕ → List Call → Type 0) →
 OfCalls Holds =
     (n : ℕ) (ch : Chain) (ws : List ℕ)
     → AskedChain n ch
-    → (out out' : List ℕ) (r : Written) (count : ℕ)
+    → (out out' : List ℕ) (r : Result ℕ Refusal) (count : ℕ)
     → Writes n ws out r out'
-    → r ≡ Samples count
+    → r ≡ Ok count
     → (calls : List Call) (rest : List ℕ)
     → ScansBelow n (events_of calls)
     → blocks_of calls ++ rest ≡ take count out'

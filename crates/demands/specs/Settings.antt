@@ -8,7 +8,7 @@
 --     KeypadRefused        elsewhere it refuses them with 7, at the lowest chip before the last that has KEYB 1
 -- Assumes nothing.
 use Rattle.std.specs.Prelude.{◌≡◌, true, false, List, ℕ, ◌+◌, ◌*◌, ◌≤◌, ◌<◌, length, get_or, take}
-use Rattle.base.specs.Refusals.{done, refused}
+use Rattle.base.specs.Refusals.{done, refused, tells}
 use Rattle.chip.specs.declared.Chip.{Chip}
 use Rattle.chip.specs.declared.Settings.{Settings}
 use Rattle.chain.specs.declared.Chain.{Chain}
@@ -20,12 +20,13 @@ use Rattle.settings.specs.declared.Kiosk.{Kiosk}
 use Rattle.settings.specs.Printing.{kiosk_words}
 use Rattle.settings.specs.Putting.{settings_test}
 use Rattle.settings.specs.Settings.{no_kept}
-use Rattle.writer.specs.declared.Written.{Written}
-use Rattle.writer.specs.declared.Written.TheVariants.{Samples}
 use Rattle.writer.specs.Rows.{list_test}
-use Rattle.writer.specs.Written.{Writes, written_tells}
+use Rattle.writer.specs.Written.{Writes}
 use Rattle.demands.specs.Demand3.{AskedChain}
 use Rattle.demands.specs.Calls.{Call, events_of, blocks_of, Ran}
+use Rattle.std.specs.declared.result.Result.{Result}
+use Rattle.base.specs.declared.Refusal.{Refusal}
+use Rattle.std.specs.declared.result.Result.TheVariants.{Ok}
 
 -- ---- settings
 
@@ -66,9 +67,9 @@ abbrev pub SettingsSet : Type 0
 SettingsSet =
     (kiosk : Kiosk) → AskedKiosk kiosk
     → (ch : Chain) → AskedChain kiosk.n ch
-    → (out out' : List ℕ) (r : Written) (count : ℕ)
+    → (out out' : List ℕ) (r : Result ℕ Refusal) (count : ℕ)
     → Writes kiosk.n (kiosk_words kiosk) out r out'
-    → r ≡ Samples count
+    → r ≡ Ok count
     → (calls : List Call)
     → ScansBelow kiosk.n (events_of calls)
     → blocks_of calls ≡ take count out'
@@ -85,9 +86,9 @@ setup_samples n = 4 * (24 * n + 2)
 -- the rows are accepted, and `write` writes them where the buffer has room
 pub record Accepts (kiosk : Kiosk) : Type 0 where
   pub list : list_test kiosk.n (kiosk_words kiosk) ≡ done tt
-  pub answer : (out out' : List ℕ) (r : Written) → Writes kiosk.n (kiosk_words kiosk) out r out'
+  pub answer : (out out' : List ℕ) (r : Result ℕ Refusal) → Writes kiosk.n (kiosk_words kiosk) out r out'
       → setup_samples kiosk.n ≤ length out
-      → r ≡ Samples (setup_samples kiosk.n)
+      → r ≡ Ok (setup_samples kiosk.n)
 
 abbrev pub SettingsAccepted : Type 0
 SettingsAccepted = (kiosk : Kiosk) → AskedKiosk kiosk → KeypadAtMostLast kiosk → Accepts kiosk
@@ -99,7 +100,7 @@ SettingsAcceptedOnly = (kiosk : Kiosk) → AskedKiosk kiosk → list_test kiosk.
 -- the rows are refused with 7 at chip k, whatever the buffer
 pub record RefusesKeypad (kiosk : Kiosk) (k : ℕ) : Type 0 where
   pub list : list_test kiosk.n (kiosk_words kiosk) ≡ refused 7 k
-  pub answer : (out out' : List ℕ) (r : Written) → Writes kiosk.n (kiosk_words kiosk) out r out' → written_tells r ≡ refused 7 k
+  pub answer : (out out' : List ℕ) (r : Result ℕ Refusal) → Writes kiosk.n (kiosk_words kiosk) out r out' → tells r ≡ refused 7 k
 
 abbrev pub KeypadRefused : Type 0
 KeypadRefused = (kiosk : Kiosk) → AskedKiosk kiosk → (k : ℕ) → KeypadEarly kiosk k → RefusesKeypad kiosk k

@@ -5,17 +5,18 @@
 --     SettingsRefusalsChangeNothing       the statement, entry by entry
 -- Assumes nothing.
 use Rattle.std.specs.Prelude.{◌≡◌, List, ℕ, length, take, drop}
-use Rattle.base.specs.Refusals.{refused, verdict_tells}
+use Rattle.base.specs.Refusals.{refused, tells, handed}
 use Rattle.capture.specs.declared.Replayed.{Replayed}
 use Rattle.capture.specs.Reports.{refusal_line}
 use Rattle.settings.specs.declared.Kiosk.{Kiosk}
-use Rattle.settings.specs.declared.KioskRead.{KioskRead}
-use Rattle.settings.specs.declared.Put.{Put}
 use Rattle.settings.specs.Printing.{PrintsAgain, PrintsSetup}
-use Rattle.settings.specs.Putting.{put_tells, Writes, Fills}
-use Rattle.settings.specs.Reading.{read_of, handed_kiosk}
+use Rattle.settings.specs.Putting.{Writes, Fills}
+use Rattle.settings.specs.Reading.{read_of}
 use Rattle.settings.specs.Settings.{no_kiosk}
 use Rattle.demands.specs.Unchanged.{HandsBack}
+use Rattle.std.specs.declared.result.Result.{Result}
+use Rattle.base.specs.declared.Refusal.{Refusal}
+use Rattle.base.specs.declared.Handed.{Handed}
 
 -- a piece stands at a buffer's front, so many are counted, and the rest of the buffer is as it was
 pub record AtFront (piece out out' : List ℕ) (count : ℕ) : Type 0 where
@@ -30,12 +31,12 @@ LineAlone out out' number place bytes = AtFront (refusal_line number place) out 
 -- a refusal changes no byte of a lent buffer
 pub record SettingsRefusalsChangeNothing : Type 0 where
   -- zeros are handed back
-  pub read : (text : List ℕ) (r : KioskRead) → handed_kiosk r ≡ read_of text → HandsBack (handed_kiosk r) no_kiosk
+  pub read : (text : List ℕ) (r : Handed Kiosk (Unit {0})) → handed r ≡ read_of text → HandsBack (handed r) no_kiosk
   -- every byte, and every word, of the lent buffer is as it was
-  pub write : (kiosk : Kiosk) (out out' : List ℕ) (r : Put) → Writes kiosk out r out' → (number place : ℕ) → put_tells r ≡ refused number place → out' ≡ out
-  pub rows : (kiosk : Kiosk) (out out' : List ℕ) (r : Put) → Fills kiosk out r out' → (number place : ℕ) → put_tells r ≡ refused number place → out' ≡ out
+  pub write : (kiosk : Kiosk) (out out' : List ℕ) (r : Result ℕ Refusal) → Writes kiosk out r out' → (number place : ℕ) → tells r ≡ refused number place → out' ≡ out
+  pub rows : (kiosk : Kiosk) (out out' : List ℕ) (r : Result ℕ Refusal) → Fills kiosk out r out' → (number place : ℕ) → tells r ≡ refused number place → out' ≡ out
   -- the refusal's line, and the rest of the array as it was
   pub again : (text out out' : List ℕ) (r : Replayed) → PrintsAgain text out r out'
-      → (number place : ℕ) → verdict_tells r.answer ≡ refused number place → LineAlone out out' number place r.bytes
+      → (number place : ℕ) → tells r.answer ≡ refused number place → LineAlone out out' number place r.bytes
   pub setup : (text out out' : List ℕ) (r : Replayed) → PrintsSetup text out r out'
-      → (number place : ℕ) → verdict_tells r.answer ≡ refused number place → LineAlone out out' number place r.bytes
+      → (number place : ℕ) → tells r.answer ≡ refused number place → LineAlone out out' number place r.bytes

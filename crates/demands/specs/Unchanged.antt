@@ -8,25 +8,17 @@
 --     RefusalsChangeNothing     the statement, entry by entry
 -- Assumes nothing.
 use Rattle.std.specs.Prelude.{◌≡◌, false, List, [], ◌∷◌, ◌++◌, ℕ, suc, ◌-◌, ◌≤◌, length, get_or, take, drop}
-use Rattle.base.specs.Refusals.{refused, Outcome, verdict_tells}
+use Rattle.base.specs.Refusals.{refused, Outcome, tells, handed}
 use Rattle.word.specs.declared.Command.{Command}
 use Rattle.chip.specs.declared.Chip.{Chip}
-use Rattle.chip.specs.declared.HandedChip.{HandedChip}
-use Rattle.chip.specs.declared.Scanned as ChipScanned
-use Rattle.chip.specs.declared.Lit.{Lit}
 use Rattle.chip.specs.Record.{blank}
 use Rattle.chip.specs.Entries as One
 use Rattle.chain.specs.declared.Chain.{Chain}
-use Rattle.chain.specs.declared.HandedChain.{HandedChain}
-use Rattle.chain.specs.declared.Seen.{Seen}
-use Rattle.chain.specs.declared.blocks.AfterBlock.{AfterBlock}
-use Rattle.chain.specs.declared.one.Scanned.{Scanned}
 use Rattle.chain.specs.declared.finder.Found.{Found}
-use Rattle.chain.specs.Blocks.{rises_tell, handed_block, Blocks}
+use Rattle.chain.specs.Blocks.{Blocks}
 use Rattle.chain.specs.Finder.{handed_found, found_of, no_report}
-use Rattle.chain.specs.Entries.{handed_chain, started_of, zero_chain, played_of, handed_scan, scanned_of, applied_of, handed_lit, segments_of, handed_seen, seen_of}
-use Rattle.writer.specs.declared.Written.{Written}
-use Rattle.writer.specs.Written.{written_tells, Writes}
+use Rattle.chain.specs.Entries.{started_of, zero_chain, played_of, scanned_of, applied_of, segments_of, seen_of}
+use Rattle.writer.specs.Written.{Writes}
 use Rattle.capture.specs.declared.Report.{Report}
 use Rattle.capture.specs.declared.Report.TheVariants.{Words, Screen}
 use Rattle.capture.specs.declared.Replayed.{Replayed}
@@ -34,11 +26,16 @@ use Rattle.capture.specs.Reports.{refusal_line}
 use Rattle.capture.specs.Replay.{Replays}
 use Rattle.lines.specs.Lines.{lines_of}
 use Rattle.tallies.specs.declared.Tally.{Tally}
-use Rattle.tallies.specs.declared.Counted.{Counted}
-use Rattle.tallies.specs.Counted.{counted_all, counted_of, handed_tally}
+use Rattle.tallies.specs.Counted.{counted_all, counted_of}
 use Rattle.zhaqsumir.specs.Numbers.{decode_numbers, encode_numbers, find_numbers, WritesNumbers, ReplaysNumbers, chip_numbers, tally_in, TalliesNumbers}
 use Rattle.zhaqsumir.specs.Panels.{StartsNumbers, BlocksNumbers, ScansNumbers, lit_numbers, sees_numbers}
 use Rattle.demands.specs.Texts.{wrote_before}
+use Rattle.std.specs.declared.result.Result.{Result}
+use Rattle.base.specs.declared.Refusal.{Refusal}
+use Rattle.base.specs.declared.Handed.{Handed}
+use mathlib.Core.Bool.{Bool}
+use Rattle.chip.specs.declared.Recorded.{Recorded}
+use Rattle.chip.specs.Entries.{handed_scan}
 
 -- where a refusal is told, the value is the one given (zeros, where none was given)
 abbrev pub HandsBack : {S A : Type 0} → Outcome S A → S → Type 0
@@ -58,7 +55,7 @@ pub record TextRefused (what : Report) (text out out' : List ℕ) (number line b
 -- of `capture::replay` and `capture::screen`
 abbrev TextKept : Report → Type 0
 TextKept what =
-    (text out out' : List ℕ) (r : Replayed) → Replays what text out r out' → (number line : ℕ) → verdict_tells r.answer ≡ refused number line
+    (text out out' : List ℕ) (r : Replayed) → Replays what text out r out' → (number line : ℕ) → tells r.answer ≡ refused number line
     → TextRefused what text out out' number line r.bytes
 
 -- what the lines of a text before a line leave of a tally
@@ -81,30 +78,30 @@ pub record TallyRefused (text cs ts : List ℕ) (n line : ℕ) (cs' ts' : List �
 -- a refusal changes no chip and no byte of a lent buffer
 pub record RefusalsChangeNothing : Type 0 where
   -- one chip: the chip handed back is the one given; no segment is lit
-  pub chip_apply : (c : Chip) (command : Command) (r : HandedChip) → One.handed_chip r ≡ One.applied_of c command → HandsBack (One.handed_chip r) c
-  pub chip_sample : (c : Chip) (levels sample : ℕ) (r : HandedChip) → One.handed_chip r ≡ One.sampled_of c levels sample → HandsBack (One.handed_chip r) c
-  pub chip_scan : (c : Chip) (bytes : List ℕ) (r : ChipScanned.Scanned) → One.handed_scan r ≡ One.scanned_of c bytes → HandsBack (One.handed_scan r) c
-  pub chip_segments : (c : Chip) (r : Lit) → One.handed_lit r ≡ One.segments_of c → HandsBack (One.handed_lit r) blank
+  pub chip_apply : (c : Chip) (command : Command) (r : Handed Chip (Unit {0})) → handed r ≡ One.applied_of c command → HandsBack (handed r) c
+  pub chip_sample : (c : Chip) (levels sample : ℕ) (r : Handed Chip (Unit {0})) → handed r ≡ One.sampled_of c levels sample → HandsBack (handed r) c
+  pub chip_scan : (c : Chip) (bytes : List ℕ) (r : Handed Chip Recorded) → handed_scan r ≡ One.scanned_of c bytes → HandsBack (handed_scan r) c
+  pub chip_segments : (c : Chip) (r : Handed (List ℕ) (Unit {0})) → handed r ≡ One.segments_of c → HandsBack (handed r) blank
   -- a chain: the chain handed back is the one given (`start`: zeros); no segment is lit, the host sees low, no rise and 0 passed
-  pub start : (n : ℕ) (r : HandedChain) → handed_chain r ≡ started_of n → HandsBack (handed_chain r) zero_chain
-  pub play : (n : ℕ) (ch : Chain) (samples : List ℕ) (r : HandedChain) → handed_chain r ≡ played_of n ch samples → HandsBack (handed_chain r) ch
+  pub start : (n : ℕ) (r : Handed Chain (Unit {0})) → handed r ≡ started_of n → HandsBack (handed r) zero_chain
+  pub play : (n : ℕ) (ch : Chain) (samples : List ℕ) (r : Handed Chain (Unit {0})) → handed r ≡ played_of n ch samples → HandsBack (handed r) ch
   -- a block: also the lent list is as it was
-  pub block : (n : ℕ) (ch : Chain) (samples list list' : List ℕ) (r : AfterBlock) → Blocks n ch samples list r list'
-      → HandsBack (handed_block r) ch × ((number place : ℕ) → rises_tell r.answer ≡ refused number place → list' ≡ list)
-  pub scan : (n : ℕ) (ch : Chain) (k : ℕ) (bytes : List ℕ) (r : Scanned) → handed_scan r ≡ scanned_of n ch k bytes → HandsBack (handed_scan r) ch
-  pub apply : (n : ℕ) (ch : Chain) (k : ℕ) (command : Command) (r : HandedChain) → handed_chain r ≡ applied_of n ch k command → HandsBack (handed_chain r) ch
-  pub segments : (n : ℕ) (ch : Chain) (k : ℕ) (r : Lit) → handed_lit r ≡ segments_of n ch k → HandsBack (handed_lit r) blank
-  pub host_sees : (n : ℕ) (ch : Chain) (r : Seen) → handed_seen r ≡ seen_of n ch → HandsBack (handed_seen r) false
+  pub block : (n : ℕ) (ch : Chain) (samples list list' : List ℕ) (r : Handed Chain ℕ) → Blocks n ch samples list r list'
+      → HandsBack (handed r) ch × ((number place : ℕ) → tells r.answer ≡ refused number place → list' ≡ list)
+  pub scan : (n : ℕ) (ch : Chain) (k : ℕ) (bytes : List ℕ) (r : Handed Chain Recorded) → handed_scan r ≡ scanned_of n ch k bytes → HandsBack (handed_scan r) ch
+  pub apply : (n : ℕ) (ch : Chain) (k : ℕ) (command : Command) (r : Handed Chain (Unit {0})) → handed r ≡ applied_of n ch k command → HandsBack (handed r) ch
+  pub segments : (n : ℕ) (ch : Chain) (k : ℕ) (r : Handed (List ℕ) (Unit {0})) → handed r ≡ segments_of n ch k → HandsBack (handed r) blank
+  pub host_sees : (n : ℕ) (ch : Chain) (r : Handed Bool (Unit {0})) → handed r ≡ seen_of n ch → HandsBack (handed r) false
   pub find : (levels : ℕ) (samples : List ℕ) (r : Found) → handed_found r ≡ found_of levels samples → HandsBack (handed_found r) no_report
   -- the writer: every byte of the lent buffer is as it was
-  pub write : (n : ℕ) (ws out out' : List ℕ) (r : Written) → Writes n ws out r out' → (number place : ℕ) → written_tells r ≡ refused number place
+  pub write : (n : ℕ) (ws out out' : List ℕ) (r : Result ℕ Refusal) → Writes n ws out r out' → (number place : ℕ) → tells r ≡ refused number place
       → out' ≡ out
   -- a text: what earlier lines wrote stands, the refusal's line follows, and the rest of the array is as it was
   pub replay : TextKept Words
   pub screen : TextKept Screen
   -- a tally: what earlier lines counted stands, and nothing else is counted
-  pub count : (t : Tally) (text : List ℕ) (r : Counted) → handed_tally r ≡ counted_of t text → (number line : ℕ) → verdict_tells r.answer ≡ refused number line
-      → CountRefused t text line r.tally
+  pub count : (t : Tally) (text : List ℕ) (r : Handed Tally (Unit {0})) → handed r ≡ counted_of t text → (number line : ℕ) → tells r.answer ≡ refused number line
+      → CountRefused t text line r.value
   -- the library's six functions: zeros after the refusal's number and place, and the lent buffers and the tally as above
   pub library_decode : (word : ℕ) (answer : List ℕ) → answer ≡ decode_numbers word → Refuses answer (0 ∷ 0 ∷ 0 ∷ 0 ∷ 0 ∷ 0 ∷ [])
   pub library_encode : (command answer : List ℕ) → answer ≡ encode_numbers command → Refuses answer (0 ∷ [])

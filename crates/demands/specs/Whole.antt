@@ -10,10 +10,7 @@
 use Rattle.std.specs.Prelude.{◌≡◌, true, ◌↔◌, List, [], ◌∷◌, ◌++◌, map, ℕ, ◌+◌, ◌*◌, ◌%◌, ◌<◌, length, get_or, take}
 use Rattle.word.specs.declared.Command.{Command}
 use Rattle.word.specs.declared.Command.TheVariants.{NoOperation}
-use Rattle.word.specs.declared.Encoded.{Encoded}
-use Rattle.word.specs.declared.Encoded.TheVariants.{Word}
 use Rattle.word.specs.Words.{encoded_of}
-use Rattle.word.specs.Answers.{encoded_tells}
 use Rattle.chip.specs.declared.Chip.{Chip}
 use Rattle.chip.specs.Record.{body_of}
 use Rattle.chip.specs.Edges.{load_rises}
@@ -21,14 +18,16 @@ use Rattle.chip.specs.History.{Step, after}
 use Rattle.chain.specs.declared.Chain.{Chain}
 use Rattle.chain.specs.Entries.{chip_at}
 use Rattle.chain.specs.Events.{Event, happened, ScansBelow}
-use Rattle.writer.specs.declared.Written.{Written}
-use Rattle.writer.specs.declared.Written.TheVariants.{Samples}
 use Rattle.writer.specs.Rows.{rows_of}
 use Rattle.writer.specs.Written.{Writes}
 use Rattle.demands.specs.Events.{steps_for, commands_in}
 use Rattle.demands.specs.Demand3.{AskedChain, TookItsOwn, scans_in, scans_of}
 use Rattle.demands.specs.Calls.{Call, events_of, blocks_of, Ran, AllDone}
 use Rattle.demands.specs.Direct.{AcceptedDirectly}
+use Rattle.std.specs.declared.result.Result.{Result}
+use Rattle.base.specs.declared.Refusal.{Refusal}
+use Rattle.base.specs.Refusals.{tells}
+use Rattle.std.specs.declared.result.Result.TheVariants.{Ok}
 
 -- a LOAD rise stands at sample p of a list, given the levels before the list
 abbrev pub RisesAt : ℕ → List ℕ → ℕ → Type 0
@@ -60,9 +59,9 @@ abbrev pub Demand3Whole : Type 0
 Demand3Whole =
     (n : ℕ) (ch : Chain) (ws : List ℕ)
     → AskedChain n ch
-    → (out out' : List ℕ) (r : Written) (count : ℕ)
+    → (out out' : List ℕ) (r : Result ℕ Refusal) (count : ℕ)
     → Writes n ws out r out'
-    → r ≡ Samples count
+    → r ≡ Ok count
     → (calls : List Call)
     → ScansBelow n (events_of calls)
     → blocks_of calls ≡ take count out'
@@ -73,9 +72,9 @@ Demand3Whole =
 
 -- `encode` answered a command with a word
 pub record Encoding (command : Command) (w : ℕ) : Type 0 where
-  pub answer : Encoded
-  pub contract : encoded_tells answer ≡ encoded_of command
-  pub word : answer ≡ Word w
+  pub answer : Result ℕ Refusal
+  pub contract : tells answer ≡ encoded_of command
+  pub word : answer ≡ Ok w
 
 -- so it did for each command of a list
 abbrev pub Encodes : List Command → List ℕ → Type 0
@@ -100,9 +99,9 @@ Demand3Commands =
     (n : ℕ) (ch : Chain) (commands : List Command) (ws : List ℕ)
     → AskedChain n ch
     → Encodes commands ws
-    → (out out' : List ℕ) (r : Written) (count : ℕ)
+    → (out out' : List ℕ) (r : Result ℕ Refusal) (count : ℕ)
     → Writes n ws out r out'
-    → r ≡ Samples count
+    → r ≡ Ok count
     → (calls : List Call)
     → ScansBelow n (events_of calls)
     → blocks_of calls ≡ take count out'

@@ -1,6 +1,6 @@
 -- Lines of each element of a list, one after another: a loop that puts them, and how long they can be. The loop's invariant is `Fills` of
 -- crate base.
---     lines_left, left_room, left_more, left-over     the lines of the elements from a place on, put where the loop stands, make the whole
+--     lines_left, left_room, left_more, left_over     the lines of the elements from a place on, put where the loop stands, make the whole
 --     lines_room, lines_width                        how long such lines can be, and are
 --     front_at, front_few, front_many                the first n elements of a list, at a place and past them
 --     each_one                                       pieces of one number each are a mapped list

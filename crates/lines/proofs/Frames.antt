@@ -1,25 +1,25 @@
 -- Frames: an array filled with a line's bytes, zeros past them, and what it holds.
---     pairs_start, pairs_more, pairs_over                   a loop that fills it; `Fills` of crate base is its invariant
---     held_long, held_other, held_odd, held_whole           the bytes of a line that a frame has room for
+--     Pairs, pair_digits, pairs_more, pairs_over            a loop that fills it; `Fills` of crate base is its invariant
+--     held_long, held_other                                 the bytes of a line that a frame has room for
 --     Holds, frame_holds                                    a frame holds bytes
 -- Assumes nothing.
-use mathlib.Core.Path.{◌≡◌, refl, ap, ap₂, ◌∙◌}
-use mathlib.Core.Bool.{true, false, ◌&&◌}
+use mathlib.Core.Path.{◌≡◌, refl, ap, subst, ◌∙◌}
+use mathlib.Core.Bool.{false, ◌&&◌}
 use mathlib.Core.List.{List, [], ◌∷◌, ◌++◌}
 use Prim.Native.Nat.{ℕ, ◌+◌, ◌*◌, ◌%◌, ◌≤◌, ◌<◌}
 use native.Mathlib.Omega.{arith}
-use borrow.Author.Tests.{le-leb, lt-leb, leb-true, eq-eqb, ne_eqb}
-use lib.Dec.{eqb, leb}
-use lib.ListN.{length, replicate, set, drop}
+use borrow.Author.Tests.{le-leb, lt-leb, leb-true}
+use lib.Dec.{T, eqb, leb}
+use lib.ListN.{length, get_or, replicate, set, drop, length-append}
 use lib.Seq.{take_at}
 use Rattle.base.specs.Lent.{laid, placed}
-use Rattle.base.proofs.Lent.{Fills, fills_start, fills_more, fills_over}
+use Rattle.base.proofs.Lent.{Fills, fills_more, fills_over}
 use Rattle.base.proofs.Picks.{pick_yes, pick_no, pick_cases}
 use Rattle.base.proofs.Stores.{one_put}
 use Rattle.lines.specs.declared.Frame.{Frame}
 use Rattle.lines.specs.Answers.{held_in, frame_for, held_by}
-use Rattle.lines.specs.Lines.{ended, all_hex, bytes_of, bytes_in}
-use Rattle.lines.proofs.Lines.{byte_at, bytes_more, bytes_over, bytes_half}
+use Rattle.lines.specs.Lines.{ended, hex_of, all_hex, bytes_of, bytes_in}
+use Rattle.lines.proofs.Lines.{two_digits, two_bytes, bytes_few, bytes_half}
 
 -- ---- an array filled with bytes
 
@@ -27,30 +27,38 @@ use Rattle.lines.proofs.Lines.{byte_at, bytes_more, bytes_over, bytes_half}
 abbrev pub zeros : List ℕ
 zeros = replicate 33 0
 
--- the loop's invariant: what is left to store, put where the loop stands, makes the frame's array
-abbrev pub Pairs : List ℕ → ℕ → List ℕ → Type 0
-Pairs line i bytes = Fills 0 (bytes_of line) zeros i (bytes_of (drop (2 * i) line)) bytes
+-- the loop's invariant: the bytes of the digits left, put where the loop stands, make the frame's array
+pub record Pairs (line : List ℕ) (i : ℕ) (rest bytes : List ℕ) : Type 0 where
+  pub digits : T (all_hex rest)
+  pub fills : Fills 0 (bytes_of line) zeros i (bytes_of rest) bytes
 
-pub pairs_start : (line : List ℕ) → Pairs line 0 zeros
-pairs_start line = fills_start 0 (bytes_of line) zeros
+-- the next two are digits
+pub pair_digits : {line : List ℕ} {i : ℕ} {rest bytes : List ℕ} → Pairs line i rest bytes → (x rest' : List ℕ) → rest ≡ x ++ rest' → length x ≡ 2
+    → (hex_of (get_or x 0 0) < 16) × (hex_of (get_or x 1 0) < 16) × T (all_hex rest')
+pair_digits p x rest' e l = two_digits x rest' l (subst (λ r. T (all_hex r)) e p.digits)
 
-pub pairs_more : (line : List ℕ) (i : ℕ) (bytes : List ℕ) (b : ℕ) → Pairs line i bytes → 2 * i + 1 < length line → length line ≤ 66
-    → b ≡ byte_at line (2 * i)
-    → Pairs line (i + 1) (set bytes i b)
-pairs_more line i bytes b p h s e =
-    let byte = byte_at line (2 * i) in
-    let rest = bytes_of (drop (2 * (i + 1)) line) in
+pub pairs_more : {line : List ℕ} {i : ℕ} {rest bytes : List ℕ} → Pairs line i rest bytes → length line ≤ 66
+    → (x rest' : List ℕ) (at i' b : ℕ) → rest ≡ x ++ rest' → length x ≡ 2 → at ≡ i → i' ≡ i + 1
+    → b ≡ 16 * hex_of (get_or x 0 0) + hex_of (get_or x 1 0)
+    → Pairs line i' rest' (set bytes at b)
+pairs_more {line} {i} {rest} {bytes} p s x rest' at i' b e l a n v =
+    let t = pair_digits p x rest' e l in
+    let byte = 16 * hex_of (get_or x 0 0) + hex_of (get_or x 1 0) in
+    let whole : length rest ≡ length x + length rest' = ap length e ∙ length-append x rest' in
+    let few : i < 33 = omega (arith, p.fills.count, bytes_half line, bytes_half rest) in
     let all : length zeros ≡ 33 = refl in
-    let size : length bytes ≡ 33 = p.size ∙ all in
+    let size : length bytes ≡ 33 = p.fills.size ∙ all in
     let room : 0 + length (bytes_of line) ≤ length zeros = omega (arith, bytes_half line) in
-    let start : Fills 0 (bytes_of line) zeros i ((byte ∷ []) ++ rest) bytes = rw (bytes_more line i h) at p in
-    fills_more (byte ∷ []) rest start room refl (one_put bytes i b (omega arith) ∙ ap (λ x. placed i (x ∷ []) bytes) e)
+    let start : Fills 0 (bytes_of line) zeros i ((byte ∷ []) ++ bytes_of rest') bytes =
+    subst (λ left. Fills 0 (bytes_of line) zeros i left bytes) (ap bytes_of e ∙ two_bytes x rest' l) p.fills in
+    record {
+      digits = t.2;
+      fills = fills_more (byte ∷ []) (bytes_of rest') start room n (ap (λ k. set bytes k b) a ∙ one_put bytes i b (omega arith) ∙ ap (λ y. placed i (y ∷ []) bytes) v);
+    }
 
-pub pairs_over : (line : List ℕ) (i : ℕ) (bytes : List ℕ) → Pairs line i bytes → length line ≤ 2 * i + 1
-    → bytes ≡ laid (bytes_of line) zeros
-pairs_over line i bytes p h =
-    let f : Fills 0 (bytes_of line) zeros i [] bytes = rw (bytes_over line i h) at p in
-    (fills_over f).1
+pub pairs_over : {line : List ℕ} {i : ℕ} {rest bytes : List ℕ} → Pairs line i rest bytes → length rest < 2 → bytes ≡ laid (bytes_of line) zeros
+pairs_over {line} {i} {rest} {bytes} p h =
+    (fills_over (subst (λ left. Fills 0 (bytes_of line) zeros i left bytes) (bytes_few rest h) p.fills)).1
 
 -- ---- the bytes of a line that a frame has room for
 
@@ -61,16 +69,6 @@ pub held_other : (cs : List ℕ) → length cs ≤ 66 → all_hex cs ≡ false �
 held_other cs h d =
     pick_yes (bytes_in (ended cs)) [] (le-leb (length cs) 66 h)
     ∙ pick_no (bytes_of cs) [] (ap (λ t. t && eqb (length cs % 2) 0) d)
-
-pub held_odd : (cs : List ℕ) → length cs ≤ 66 → all_hex cs ≡ true → (length cs % 2 ≡ 0 → ⊥) → held_in cs ≡ []
-held_odd cs h d o =
-    pick_yes (bytes_in (ended cs)) [] (le-leb (length cs) 66 h)
-    ∙ pick_no (bytes_of cs) [] (ap₂ ◌&&◌ d (ne_eqb (length cs % 2) 0 o))
-
-pub held_whole : (cs : List ℕ) → length cs ≤ 66 → all_hex cs ≡ true → length cs % 2 ≡ 0 → held_in cs ≡ bytes_of cs
-held_whole cs h d o =
-    pick_yes (bytes_in (ended cs)) [] (le-leb (length cs) 66 h)
-    ∙ pick_yes (bytes_of cs) [] (ap₂ ◌&&◌ d (eq-eqb (length cs % 2) 0 o))
 
 held_room : (cs : List ℕ) → length (held_in cs) ≤ 33
 held_room cs =

@@ -1,50 +1,40 @@
 -- Lines read: hexadecimal digits, bytes two digits each, and where a line ends, each seen from a place in the middle of a text.
---     hex_none, hex_figure, hex_between, hex_letter, hex_past     what a character counts, by where it stands
---     hex_more, hex_over, hex_at                                  every character is a digit
---     bytes_more, bytes_over, bytes_half, bytes_length            bytes of digits, and their number
+--     hex_past                                                    what a character past the digits counts
+--     two_digits, two_bytes, bytes_few                            digits two by two
+--     bytes_half, bytes_length                                    how many bytes digits make
 --     length_stops, length_more                                   how far a line goes on, by its first character
---     end_here, end_more, end_over, line_length_le                the same from a place on
+--     line_length_place, line_length_le                           the same by the place of the first 0AH, and by the text's length
 --     line_ends, line_begins                                      the lines of a text, by its first character
 --     lines_next, lines_last, lines_append                        the same by its first line, and of two texts
 --     lines_any                                                   a text that isn't empty has a line
 --     chars_in, chars_in_lem                                           how many characters lines have
 -- Assumes nothing.
 use mathlib.Core.Path.{◌≡◌, refl, ap, sym, ◌∙◌}
-use mathlib.Core.Bool.{true, ◌&&◌}
+use mathlib.Core.Bool.{Bool, true, false, ◌&&◌}
 use mathlib.Core.List.{List, [], ◌∷◌, ◌++◌}
-use Prim.Native.Nat.{ℕ, zero, suc, ◌+◌, ◌*◌, ◌-◌, ◌/◌, ◌≤◌, ◌<◌}
-use native.Mathlib.Nat.{le_of_suc-le-suc}
+use mathlib.Core.Logic.{⊎_elim}
+use Prim.Native.Nat.{ℕ, suc, ◌+◌, ◌*◌, ◌-◌, ◌/◌, ◌≤◌, ◌<◌}
 use native.Mathlib.Numerals.{add-one}
 use native.Mathlib.Omega.{arith}
 use borrow.Author.Tests.{le-leb, lt-leb, eq-eqb, ne_eqb}
-use lib.Dec.{T, ltb, ltb→lt}
+use lib.Dec.{T, eqb, ltb, ltb→lt}
 use lib.ListN.{length, get_or, take, drop, length-append, length-drop, drop_of_length-le}
+use lib.Seq.{take_all}
+use Rattle.base.specs.Pick.{pick}
 use Rattle.base.proofs.Picks.{pick_yes, pick_no}
 use Rattle.base.proofs.Tests.{and_left, and_right, by_equality}
-use Rattle.base.proofs.Lists.{rest_is}
 use Rattle.lines.specs.Lines.{newline, Line, ended, cut_off, before, lines_of, hex_of, all_hex, bytes_of}
 use Rattle.lines.specs.Answers.{line_length}
+use Rattle.std.specs.List.{position, position_or_len}
+use Rattle.std.specs.Option.{unwrap_or}
+use Rattle.std.specs.Slice.{IsGetRangeResult}
+use Rattle.std.proofs.Common.{Option, None, Some, cond}
+use Rattle.std.proofs.lemmas.Bool.Decides.{nat_tests}
+use Rattle.std.proofs.lemmas.List.Sums.{prefix_len-le-length}
+use denote.Ref.{Bor}
+use Rattle.std.proofs.lemmas.List.Recursion.{is_position_or_len}
 
 -- ---- a hexadecimal digit
-
-pub hex_none : (ch : ℕ) → ch < 0x30 → hex_of ch ≡ 16
-unfolding hex_of
-hex_none ch h = let l : ch < 0x41 = omega arith in simp (lt-leb 0x30 ch h, lt-leb 0x41 ch l)
-
-pub hex_figure : (ch : ℕ) → 0x30 ≤ ch → ch ≤ 0x39 → hex_of ch ≡ ch - 0x30
-unfolding hex_of
-hex_figure ch h l = simp (le-leb 0x30 ch h, le-leb ch 0x39 l)
-
-pub hex_between : (ch : ℕ) → 0x39 < ch → ch < 0x41 → hex_of ch ≡ 16
-unfolding hex_of
-hex_between ch h l = let g : 0x30 ≤ ch = omega arith in simp (le-leb 0x30 ch g, lt-leb ch 0x39 h, lt-leb 0x41 ch l)
-
-pub hex_letter : (ch : ℕ) → 0x41 ≤ ch → ch ≤ 0x46 → hex_of ch ≡ ch - 0x37
-unfolding hex_of
-hex_letter ch h l =
-    let g : 0x30 ≤ ch = omega arith in
-    let p : 0x39 < ch = omega arith in
-    simp (le-leb 0x30 ch g, lt-leb ch 0x39 p, le-leb 0x41 ch h, le-leb ch 0x46 l)
 
 pub hex_past : (ch : ℕ) → 0x46 < ch → hex_of ch ≡ 16
 unfolding hex_of
@@ -54,46 +44,36 @@ hex_past ch h =
     let q : 0x41 ≤ ch = omega arith in
     simp (le-leb 0x30 ch g, lt-leb ch 0x39 p, le-leb 0x41 ch q, lt-leb ch 0x46 h)
 
--- ---- every character is a digit
+-- ---- digits two by two
 
-pub hex_more : (cs : List ℕ) (i : ℕ) → i < length cs → all_hex (drop i cs) ≡ (ltb (hex_of (get_or cs i 0)) 16 && all_hex (drop (i + 1) cs))
+-- the first two of some digits are digits, and so are the others
+pub two_digits : (x rest : List ℕ) → length x ≡ 2 → T (all_hex (x ++ rest))
+    → (hex_of (get_or x 0 0) < 16) × (hex_of (get_or x 1 0) < 16) × T (all_hex rest)
 unfolding all_hex
-hex_more cs i h = ap all_hex (rest_is cs i 0 h)
+two_digits [] rest l t = absurd (omega arith)
+two_digits (a ∷ []) rest l t = absurd (omega arith)
+two_digits (a ∷ b ∷ c ∷ x) rest l t = absurd (omega arith)
+two_digits (a ∷ b ∷ []) rest l t =
+    let u = and_right (ltb (hex_of a) 16) (ltb (hex_of b) 16 && all_hex rest) t in (
+      ltb→lt (hex_of a) 16 (and_left (ltb (hex_of a) 16) (ltb (hex_of b) 16 && all_hex rest) t),
+      ltb→lt (hex_of b) 16 (and_left (ltb (hex_of b) 16) (all_hex rest) u),
+      and_right (ltb (hex_of b) 16) (all_hex rest) u,
+    )
 
-pub hex_over : (cs : List ℕ) (i : ℕ) → length cs ≤ i → all_hex (drop i cs) ≡ true
-unfolding all_hex
-hex_over cs i h = ap all_hex (drop_of_length-le cs h)
-
-pub hex_at : (cs : List ℕ) → T (all_hex cs) → (k : ℕ) → k < length cs → hex_of (get_or cs k 0) < 16
-unfolding all_hex
-hex_at [] t k h = absurd (omega arith)
-hex_at (ch ∷ cs) t zero h = ltb→lt (hex_of ch) 16 (and_left (ltb (hex_of ch) 16) (all_hex cs) t)
-hex_at (ch ∷ cs) t (suc k) h = hex_at cs (and_right (ltb (hex_of ch) 16) (all_hex cs) t) k (le_of_suc-le-suc h)
-
--- ---- bytes of digits
-
--- the byte whose digits stand at a place
-abbrev pub byte_at : List ℕ → ℕ → ℕ
-byte_at cs k = 16 * hex_of (get_or cs k 0) + hex_of (get_or cs (k + 1) 0)
-
-pub bytes_more : (cs : List ℕ) (i : ℕ) → 2 * i + 1 < length cs → bytes_of (drop (2 * i) cs) ≡ byte_at cs (2 * i) ∷ bytes_of (drop (2 * (i + 1)) cs)
+-- they make a byte
+pub two_bytes : (x rest : List ℕ) → length x ≡ 2 → bytes_of (x ++ rest) ≡ (16 * hex_of (get_or x 0 0) + hex_of (get_or x 1 0)) ∷ bytes_of rest
 unfolding bytes_of
-bytes_more cs i h =
-    ap bytes_of (rest_is cs (2 * i) 0 (omega arith) ∙ ap (λ r. get_or cs (2 * i) 0 ∷ r) (rest_is cs (2 * i + 1) 0 h))
-    ∙ ap (λ n. byte_at cs (2 * i) ∷ bytes_of (drop n cs)) next
-  where
-    next : 2 * i + 1 + 1 ≡ 2 * (i + 1)
-    next = omega arith
+two_bytes [] rest l = absurd (omega arith)
+two_bytes (a ∷ []) rest l = absurd (omega arith)
+two_bytes (a ∷ b ∷ c ∷ x) rest l = absurd (omega arith)
+two_bytes (a ∷ b ∷ []) rest l = refl
 
--- fewer than two digits make no byte
-bytes_few : (cs : List ℕ) → length cs ≤ 1 → bytes_of cs ≡ []
+-- fewer than two make none
+pub bytes_few : (cs : List ℕ) → length cs < 2 → bytes_of cs ≡ []
 unfolding bytes_of
 bytes_few [] h = refl
 bytes_few (a ∷ []) h = refl
 bytes_few (a ∷ b ∷ cs) h = absurd (omega arith)
-
-pub bytes_over : (cs : List ℕ) (i : ℕ) → length cs ≤ 2 * i + 1 → bytes_of (drop (2 * i) cs) ≡ []
-bytes_over cs i h = bytes_few (drop (2 * i) cs) (omega (arith, length-drop (2 * i) cs))
 
 pub bytes_half : (cs : List ℕ) → length (bytes_of cs) ≡ length cs / 2
 unfolding bytes_of
@@ -114,16 +94,25 @@ pub length_more : (ch : ℕ) (text : List ℕ) → (ch ≡ newline → ⊥) → 
 unfolding line_length
 length_more ch text n = pick_no 0 (suc (line_length text)) (ne_eqb ch newline n)
 
-pub end_here : (text : List ℕ) (at : ℕ) → at < length text → get_or text at 0 ≡ newline → line_length (drop at text) ≡ 0
-end_here text at h e = ap line_length (rest_is text at 0 h) ∙ length_stops (get_or text at 0) (drop (at + 1) text) e
+-- it is the place of the first 0AH, or the text's length
+place_or_length : (p : ℕ → Bool) (text : List ℕ) → unwrap_or (position p text) (length text) ≡ position_or_len p text
+place_or_length p text = grind (arith, nat_tests, prefix_len-le-length)
 
-pub end_more : (text : List ℕ) (at : ℕ) → at < length text → (get_or text at 0 ≡ newline → ⊥)
-    → line_length (drop at text) ≡ suc (line_length (drop (at + 1) text))
-end_more text at h n = ap line_length (rest_is text at 0 h) ∙ length_more (get_or text at 0) (drop (at + 1) text) n
-
-pub end_over : (text : List ℕ) (at : ℕ) → length text ≤ at → line_length (drop at text) ≡ 0
+pub line_length_place : (text : List ℕ) → line_length text ≡ unwrap_or (position (λ ch. eqb ch newline) text) (length text)
 unfolding line_length
-end_over text at h = ap line_length (drop_of_length-le text h)
+line_length_place text =
+    is_position_or_len line_length (λ ch. eqb ch newline) refl (λ ch rest. either (eqb ch newline) (line_length rest)) text
+    ∙ sym (place_or_length (λ ch. eqb ch newline) text)
+  where
+    either : (t : Bool) (n : ℕ) → pick t 0 (suc n) ≡ cond t 0 (1 + n)
+    either true n = refl
+    either false n = omega arith
+
+-- what a slice's part from a place on holds, where there is such a part
+pub rest_from : (text : List ℕ) (from : ℕ) (r : Option (Bor (List ℕ))) → IsGetRangeResult text from (length text) r
+    → (none : Bor (List ℕ)) → none.now ≡ [] → (unwrap_or r none).now ≡ drop from text
+rest_from text from None g none e = e ∙ sym (drop_of_length-le text (⊎_elim (λ h. omega arith) (λ h. absurd (omega arith)) g.0))
+rest_from text from (Some part) g none e = g.0.2 ∙ take_all (length text - from) (drop from text) (omega (arith, length-drop from text))
 
 pub line_length_le : (text : List ℕ) → line_length text ≤ length text
 unfolding line_length

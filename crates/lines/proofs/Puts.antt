@@ -1,10 +1,9 @@
 -- Lines written: bytes as hexadecimal digits, stored two by two. A loop's invariant is `Fills` of crate base.
---     hex_low, hex_high                             the hexadecimal digit that counts so much
 --     as_hex_length, line_for_length                how long digits and a line are
---     left_more, left-over                          the part left to write, seen from a place in the middle
---     writes_start, writes_more, writes_over        a line's loop
+--     left_more, left_over                          the part left to write, seen from a place in the middle
+--     writes_more, writes_over                      a line's loop
 --     fitting_whole, fitting_none                   what is put of a piece, where there is room and where there is none
---     put_whole, put_fitting, put_none              a piece put where it fits, both ways, and nothing where it doesn't
+--     put_whole, put_none                           a piece put where it fits, and nothing where it doesn't
 --     puts_room, puts_both                          a piece put after another
 --     eight_of                                       the bytes of an array of eight
 -- Assumes nothing.
@@ -13,7 +12,7 @@ use mathlib.Core.List.{List, [], ◌∷◌, ◌++◌}
 use Prim.Native.Nat.{ℕ, ◌+◌, ◌*◌, ◌/◌, ◌%◌, ◌≤◌, ◌<◌}
 use native.Mathlib.Numerals.{add-one}
 use native.Mathlib.Omega.{arith}
-use borrow.Author.Tests.{le-leb, lt-leb, lt-ltb, le-ltb}
+use borrow.Author.Tests.{le-leb, lt-leb}
 use lib.ListN.{length, get_or, set, drop, length-append, drop_of_length-le}
 use lib.Seq.{drop-cons}
 use Rattle.base.specs.Lent.{placed}
@@ -22,14 +21,6 @@ use Rattle.base.proofs.Picks.{pick_yes, pick_no}
 use Rattle.base.proofs.Stores.{one_put, two_put}
 use Rattle.lines.specs.Answers.{fitting, Puts}
 use Rattle.lines.specs.Lines.{newline, hex_for, as_hex, line_for}
-
--- ---- a hexadecimal digit
-
-pub hex_low : (v : ℕ) → v < 10 → hex_for v ≡ 0x30 + v
-hex_low v h = pick_yes (0x30 + v) (0x37 + v) (lt-ltb v 10 h)
-
-pub hex_high : (v : ℕ) → 10 ≤ v → hex_for v ≡ 0x37 + v
-hex_high v h = pick_no (0x30 + v) (0x37 + v) (le-ltb v 10 h)
 
 -- ---- digits and lines
 
@@ -67,9 +58,6 @@ pub record Writes (bytes out₀ : List ℕ) (at : ℕ) (out : List ℕ) (end i :
   pub place : end ≡ at + 2 * i
   pub size : length out ≡ length out₀
   pub fills : Fills at (line_for bytes) out₀ end (left bytes i) out
-
-pub writes_start : (bytes out : List ℕ) (at : ℕ) → Writes bytes out at out at 0
-writes_start bytes out at = record { below = omega arith; place = omega arith; size = refl; fills = fills_start at (line_for bytes) out }
 
 module _ (bytes out₀ : List ℕ) (at : ℕ) (room : at + length (line_for bytes) ≤ length out₀) where
   pub writes_more : (out : List ℕ) (end i high low : ℕ) → Writes bytes out₀ at out end i → i < length bytes
@@ -111,11 +99,6 @@ pub put_whole : {piece : List ℕ} {at : ℕ} {out : List ℕ} {r : ℕ} {out' :
     → Puts (fitting piece at out) at out r out'
     → Puts piece at out r out'
 put_whole {piece} {at} {out} {r} {out'} h = subst (λ p. Puts p at out r out') (fitting_whole piece at out h)
-
-pub put_fitting : {piece : List ℕ} {at : ℕ} {out : List ℕ} {r : ℕ} {out' : List ℕ} → at + length piece ≤ length out
-    → Puts piece at out r out'
-    → Puts (fitting piece at out) at out r out'
-put_fitting {piece} {at} {out} {r} {out'} h = subst (λ p. Puts p at out r out') (sym (fitting_whole piece at out h))
 
 pub put_none : (piece : List ℕ) (at : ℕ) (out : List ℕ) → length out < at + length piece → Puts (fitting piece at out) at out at out
 put_none piece at out h =

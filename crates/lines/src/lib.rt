@@ -14,36 +14,23 @@ pub struct Frame {
 }
 
 // What an upper-case hexadecimal digit counts; 16 where the character is none.
+// It is 16 and no `Option`, since the definition by which lines are tested and read has 16 there too.
+#[tactic(auto, unfolding(crate::specs::Lines::hex_of))]
 fn hex_value(ch: u8) -> u8
     ensures { result ≡ L.hex_of ch }
 {
-    if ch < 0x30 {
-        return 16;
+    match ch {
+        b'0'..=b'9' => ch - b'0',
+        b'A'..=b'F' => ch - b'A' + 10,
+        _ => 16,
     }
-    if ch <= 0x39 {
-        return ch - 0x30;
-    }
-    if ch < 0x41 {
-        return 16;
-    }
-    if ch <= 0x46 {
-        return ch - 0x37;
-    }
-    16
 }
 
 // Whether every character is such a digit.
 fn all_hex(line: &[u8]) -> bool
     ensures { result ≡ L.all_hex line.now }
 {
-    let mut i = 0;
-    while i < line.len() {
-        if hex_value(line[i]) >= 16 {
-            return false;
-        }
-        i += 1;
-    }
-    true
+    line.iter().all(|ch| hex_value(*ch) < 16)
 }
 
 // Hexadecimal digits two by two to bytes, the high one first.
@@ -53,17 +40,12 @@ fn bytes_of(line: &[u8]) -> Frame
     ensures { result ≡ frame_for (L.bytes_of line.now) }
 {
     let mut bytes = [0u8; 33];
-    let pairs = line.len() / 2;
-    let mut i = 0;
-    while i < pairs {
-        let high = hex_value(line[2 * i]);
-        let low = hex_value(line[2 * i + 1]);
-        bytes[i] = 16 * high + low;
-        i += 1;
+    for (i, digits) in line.chunks_exact(2).enumerate() {
+        bytes[i] = 16 * hex_value(digits[0]) + hex_value(digits[1]);
     }
     Frame {
         bytes,
-        count: pairs,
+        count: line.len() / 2,
     }
 }
 
@@ -81,13 +63,7 @@ fn no_bytes() -> Frame
 pub fn frame_of(line: &[u8]) -> Frame
     ensures { result ≡ frame_for (held_in line.now) }
 {
-    if line.len() > 66 {
-        return no_bytes();
-    }
-    if !all_hex(line) {
-        return no_bytes();
-    }
-    if line.len() % 2 != 0 {
+    if line.len() > 66 || line.len() % 2 != 0 || !all_hex(line) {
         return no_bytes();
     }
     bytes_of(line)
@@ -97,14 +73,12 @@ pub fn frame_of(line: &[u8]) -> Frame
 pub fn line_end(text: &[u8], from: usize) -> usize
     ensures { result ≡ from + line_length (drop from text.now) }
 {
-    let mut at = from;
-    while at < text.len() {
-        if text[at] == 0x0A {
-            return at;
-        }
-        at += 1;
-    }
-    at
+    let rest = text.get(from..).unwrap_or(&[]);
+    let length = rest
+        .iter()
+        .position(|ch| *ch == b'\n')
+        .unwrap_or(rest.len());
+    from + length
 }
 
 // The hexadecimal digit that counts so much.
@@ -112,40 +86,36 @@ fn hex_char(v: u8) -> u8
     requires { v < 16 }
     ensures { result ≡ L.hex_for v }
 {
-    if v < 10 {
-        return 0x30 + v;
+    match v {
+        0..=9 => b'0' + v,
+        _ => b'A' + (v - 10),
     }
-    0x37 + v
 }
 
 // A line of bytes, at a place where it fits.
+#[tactic(auto, using(crate::proofs::Puts::line_for_length))]
 fn line(bytes: &[u8], out: &mut [u8], at: usize) -> usize
     requires { at + length (L.line_for bytes.now) ≤ length out.old }
     ensures { Puts (L.line_for bytes.now) at out.old result out.new }
 {
     let mut end = at;
-    let mut i = 0;
-    while i < bytes.len() {
-        let b = bytes[i];
-        out[end] = hex_char(b / 16);
-        out[end + 1] = hex_char(b % 16);
+    for byte in bytes {
+        out[end] = hex_char(byte / 16);
+        out[end + 1] = hex_char(byte % 16);
         end += 2;
-        i += 1;
     }
-    out[end] = 0x0A;
+    out[end] = b'\n';
     end + 1
 }
 
 // A line of bytes, at a place: the place past it. Where it doesn't fit, nothing is written, and the answer is the place given,
 // which is past no line.
+#[tactic(auto, using(crate::proofs::Puts::line_for_length, crate::proofs::Puts::put_none))]
 pub fn put_line(bytes: &[u8], out: &mut [u8], at: usize) -> usize
     ensures { Puts (fitting (L.line_for bytes.now) at out.old) at out.old result out.new }
 {
-    if at > out.len() {
-        return at;
-    }
-    let room = out.len() - at;
-    if bytes.len() >= room - room / 2 {
+    let room = out.len().saturating_sub(at);
+    if bytes.len() >= room.div_ceil(2) {
         return at;
     }
     line(bytes, out, at)
@@ -155,15 +125,5 @@ pub fn put_line(bytes: &[u8], out: &mut [u8], at: usize) -> usize
 pub fn eight_bytes(n: u64) -> [u8; 8]
     ensures { result ≡ L.eight_bytes n }
 {
-    let high = n / 4294967296;
-    [
-        (high / 16777216 % 256) as u8,
-        (high / 65536 % 256) as u8,
-        (high / 256 % 256) as u8,
-        (high % 256) as u8,
-        (n / 16777216 % 256) as u8,
-        (n / 65536 % 256) as u8,
-        (n / 256 % 256) as u8,
-        (n % 256) as u8,
-    ]
+    n.to_be_bytes()
 }

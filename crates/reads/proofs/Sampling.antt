@@ -3,7 +3,7 @@
 --     sampled_so                                    one sample
 --     runs_one, runs_more                           it alone, and some samples and then others
 --     rest_all                                      the rest, as the code takes it
---     Playing, playing_start, playing_size, playing_room, playing_more, playing_some, playing_over     the first of them, and the next
+--     Playing, playing_start, playing_size, playing_room, playing_more, playing_some     the first of them, and the next
 -- Assumes nothing.
 use Rattle.std.proofs.Common.{◌≡◌, ℕ, ◌+◌, ◌-◌, ◌*◌, ◌%◌, ◌^◌, ◌<◌, ◌≤◌, true, T, List, [], ◌∷◌, ◌++◌, length, take, drop, sym, refl, ap, ◌∙◌, subst, ap₂, append_assoc, append-nil, mul-le-mul_right, arith, length-append, length-drop, length-take-le, take_all, take-add}
 use Rattle.base.proofs.Lent.{placed_length}
@@ -172,12 +172,6 @@ module _ (what : Report) (n : ℕ) where
 
     pub playing_room : ran.at + sample_room * length (drop ran.count bytes) ≤ length out
     playing_room = omega (arith, few, first_length, p.within, p.runs.puts.answer, playing_size, length-drop ran.count bytes)
-
-    pub playing_over : length bytes ≤ ran.count → Runs (sampled_all what n offset bytes ch₀ r₀) (length bytes) at out₀ ran out
-    playing_over h =
-        let all : ran.count ≡ length bytes = omega (arith, p.within) in
-        subst (λ m. Runs (sampled_all what n offset bytes ch₀ r₀) m at out₀ ran out) all
-        (subst (λ bs. Runs (sampled_all what n offset bs ch₀ r₀) ran.count at out₀ ran out) (take_all ran.count bytes h) p.runs)
 
     pub playing_more : offset < 2 ^ 64 → {place : ℕ} → place ≡ offset_at offset ran.count → {next : Ran} {out' : List ℕ} → next.count ≤ length (drop ran.count bytes)
         → Runs (sampled_all what n place (take next.count (drop ran.count bytes)) ran.chain ran.reader) next.count ran.at out next out'

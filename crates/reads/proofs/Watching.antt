@@ -1,10 +1,8 @@
 -- Samples looked at ahead of the chain.
 --     still_sampled                one sample that is no LOAD rise
 --     no_end                       it isn't, and a bit is known
---     Watching, watching_start, watching_size, watching_room, watching_more     the loop over such samples
+--     Watching, watching_start, watching_room, watching_more     the loop over such samples
 --     none_written, one_alone      where there is none, nothing is written, and one sample is played
---     ahead_some                   otherwise the chain is played over all of them
---     some_size                    either way the buffer is as long as it was
 -- Assumes nothing.
 use Rattle.std.proofs.Common.{◌≡◌, ℕ, zero, suc, ◌+◌, ◌-◌, ◌*◌, ◌%◌, ◌^◌, ◌<◌, ◌≤◌, Bool, true, false, ◌||◌, eqb, List, [], ◌∷◌, ◌++◌, length, get_or, take, drop, sym, refl, ap, ◌∙◌, subst, ap₂, true≢false, append-nil, add-one, arith, length-drop, take-suc}
 use borrow.Author.Tests.{eqb-false}
@@ -15,7 +13,6 @@ use Rattle.base.proofs.Picks.{pick_no}
 use Rattle.chip.specs.declared.Chip.{Chip}
 use Rattle.chip.specs.Edges.{din, dclk_rises, load_rises, stepped}
 use Rattle.chain.specs.declared.Chain.{Chain}
-use Rattle.chain.specs.declared.play.Stretch.{Stretch}
 use Rattle.chain.specs.Chain.{most, chip_count, stepped_chain}
 use Rattle.chain.specs.Stretch.{stretch_from}
 use Rattle.chain.proofs.Rest.{row_length}
@@ -34,7 +31,7 @@ use Rattle.reads.specs.Parts.{sample_room, known_after, Runs, RunsSome, Looks}
 use Rattle.reads.specs.Reads.{last_chip, look_at, looked, kept, sampled, sampled_all}
 use Rattle.reads.specs.Till.{keypad_on}
 use Rattle.reads.proofs.Bytes.{byte_alike, byte_rises, byte_step, stretch_one}
-use Rattle.reads.proofs.Sampling.{offset_at, runs_one, Playing, playing_start, playing_size, playing_room, playing_more}
+use Rattle.reads.proofs.Sampling.{offset_at, runs_one, Playing, playing_start, playing_room, playing_more}
 use Rattle.reads.proofs.Shadows.{Shadow, shadow_start, shadow_last, shadow_look, kept_still}
 
 pub still_sampled : (what : Report) (n offset b : ℕ) (ch : Chain) (r : Reader) → load_rises ch.levels (b % 8) ≡ false
@@ -106,9 +103,6 @@ module _ {n offset : ℕ} {bytes : List ℕ} {ch₀ : Chain} {r₀ : Reader} {at
 
   playing : (what : Report) → Playing what n offset bytes ch₀ r₀ at out₀ so_far out
   playing what = record { within = w.looks.within; runs = w.looks.runs what }
-
-  pub watching_size : length out ≡ length out₀
-  watching_size = playing_size Words n count fits (playing Words)
 
   pub watching_room : a.count < length bytes → a.at + sample_room ≤ length out
   watching_room more = omega (arith, playing_room Words n count fits (playing Words), length-drop a.count bytes)
@@ -188,21 +182,3 @@ module _ {n offset : ℕ} {bytes : List ℕ} {ch : Chain} {r : Reader} {at : ℕ
             subst (λ m. Runs (sampled_all what n offset (take m bytes) ch r) m at out ran out'') (sym counts)
             (subst (λ bs. Runs (sampled_all what n offset bs ch r) 1 at out ran out'') (sym here) (runs_one what n offset (get_or bytes 0 0) ch r one));
       }
-
-  -- all of them
-  pub ahead_some : (what : Report) → 1 ≤ a.count → {part : Stretch} → part ≡ stretch_from n 0 (take a.count bytes) ch
-      → RunsSome what n offset bytes ch r at out
-      (record { chain = record { chips = part.chain.chips; levels = a.levels }; reader = a.reader; count = a.count; at = a.at }) out'
-  ahead_some what some {part} plays =
-      record {
-        some = some;
-        within = l.within;
-        runs =
-            subst (λ (x : Stretch). Runs (sampled_all what n offset (take a.count bytes) ch r) a.count at out
-            (record { chain = record { chips = x.chain.chips; levels = a.levels }; reader = a.reader; count = a.count; at = a.at }) out')
-            (sym (plays ∙ l.stretch)) (l.runs what);
-      }
-
-pub some_size : {what : Report} {n offset : ℕ} {bytes : List ℕ} {ch : Chain} {r : Reader} {at : ℕ} {out : List ℕ} {ran : Ran} {out' : List ℕ}
-    → chip_count n ≡ true → at + sample_room * length bytes ≤ length out → RunsSome what n offset bytes ch r at out ran out' → length out' ≡ length out
-some_size {what} {n} count fits made = playing_size what n count fits (record { within = made.within; runs = made.runs })

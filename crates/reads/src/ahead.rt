@@ -23,23 +23,18 @@ pub(crate) struct Ahead {
 fn known_after(keyb: bool, rises: bool, known: u8) -> u8
     ensures { result ≡ P.known_after keyb rises known }
 {
-    if keyb {
-        return known;
+    if rises && !keyb {
+        chip::edges::moved_on(known)
+    } else {
+        known
     }
-    if rises {
-        return chip::edges::moved_on(known);
-    }
-    known
 }
 
 // Whether a sample can't be looked at ahead: no bit is known, or it is a LOAD rise.
 fn is_end(known: u8, was: u8, now: u8) -> bool
     ensures { result ≡ (known == 0 || load_rises was «now») }
 {
-    if known == 0 {
-        return true;
-    }
-    chip::edges::load_rises(was, now)
+    known == 0 || chip::edges::load_rises(was, now)
 }
 
 // The looks at the samples that stand first.
@@ -62,10 +57,8 @@ pub(crate) fn look_ahead(
     let mut seen = reader;
     let mut end = at;
     let mut known = 12;
-    let mut i = 0;
-    while i < bytes.len() {
-        let b = bytes[i];
-        let levels = b % 8;
+    for (i, b) in bytes.iter().enumerate() {
+        let levels = *b % 8;
         if is_end(known, was, levels) {
             return Ahead {
                 reader: seen,
@@ -75,20 +68,17 @@ pub(crate) fn look_ahead(
             };
         }
         let looked = looks::look(last, was, levels, seen);
-        let r = looked.reader;
-        let note = looked.note;
-        end = notes::put(k as u8, note, out, end);
-        let place = std::num::wrapping_add_u64(offset, i as u64);
-        seen = looks::kept(last, was, b, place, r);
+        end = notes::put(k as u8, looked.note, out, end);
+        let place = offset.wrapping_add(i as u64);
+        seen = looks::kept(last, was, *b, place, looked.reader);
         let rises = chip::edges::dclk_rises(was, levels);
         known = known_after(last.settings.system.keyb, rises, known);
         last = chip::edges::stepped(last, was, levels, false);
         was = levels;
-        i += 1;
     }
     Ahead {
         reader: seen,
-        count: i,
+        count: bytes.len(),
         levels: was,
         at: end,
     }

@@ -87,37 +87,21 @@ pub fn start() -> Reader
 pub fn is_looking(reader: Reader) -> bool
     ensures { result ≡ R.looking reader.dout }
 {
-    let dout = reader.dout;
-    match dout {
-        Dout::NotYet => false,
-        Dout::Missing => true,
-        Dout::Low => true,
-        Dout::High => true,
-    }
+    !matches!(reader.dout, Dout::NotYet)
 }
 
 // Whether a byte is a sample: 00H to 07H, or 10H to 1FH.
 pub fn is_sample(b: u8) -> bool
     ensures { result ≡ R.is_sample b }
 {
-    if b < 0x08 {
-        return true;
-    }
-    b / 16 == 1
+    matches!(b, 0x00..=0x07 | 0x10..=0x1F)
 }
 
 // How many samples stand before the next byte that is none, or the end.
 fn run_length(bytes: &[u8]) -> usize
     ensures { result ≡ P.run_length bytes.now }
 {
-    let mut i = 0;
-    while i < bytes.len() {
-        if !is_sample(bytes[i]) {
-            return i;
-        }
-        i += 1;
-    }
-    i
+    bytes.iter().take_while(|b| is_sample(**b)).count()
 }
 
 // One sample: the look before it, and the sample played.
@@ -140,15 +124,12 @@ fn sampled(
     let levels = b % 8;
     let last = chain::one::chip_at(k, chain);
     let looked = looks::look(last, was, levels, reader);
-    let seen = looked.reader;
-    let note = looked.note;
-    let end = notes::put(k as u8, note, out, at);
-    let one = [levels];
-    let took = capture::takes::samples(what, n, chain, &one, out, end);
-    let after = took.chain;
+    let end = notes::put(k as u8, looked.note, out, at);
+    let took = capture::takes::samples(what, n, chain, &[levels], out, end);
+    let last = chain::one::chip_at(k, took.chain);
     Ran {
-        chain: after,
-        reader: looks::kept(chain::one::chip_at(k, after), was, b, offset, seen),
+        chain: took.chain,
+        reader: looks::kept(last, was, b, offset, looked.reader),
         count: 1,
         at: took.at,
     }
@@ -171,18 +152,15 @@ fn some(
     ensures { P.RunsSome what n offset bytes.now chain reader at out.old result out.new }
 {
     let ahead = ahead::look_ahead(n, chain, reader, offset, bytes, out, at);
-    let count = ahead.count;
-    if count == 0 {
+    if ahead.count == 0 {
         return sampled(what, n, chain, reader, offset, bytes[0], out, at);
     }
-    let seen = ahead.reader;
-    let part = chain::play::to_next_rise(n, chain, &bytes[..count], 0);
-    let mut after = part.chain;
-    after.levels = ahead.levels;
+    let mut part = chain::play::to_next_rise(n, chain, &bytes[..ahead.count], 0);
+    part.chain.levels = ahead.levels;
     Ran {
-        chain: after,
-        reader: seen,
-        count,
+        chain: part.chain,
+        reader: ahead.reader,
+        count: ahead.count,
         at: ahead.at,
     }
 }
@@ -202,39 +180,30 @@ fn played(
     requires bytes_in_bounds { at + P.sample_room * length bytes.now ≤ length out.old }
     ensures { P.Runs (R.sampled_all what n offset bytes.now chain reader) (length bytes.now) at out.old result out.new }
 {
-    let mut next = chain;
-    let mut seen = reader;
-    let mut end = at;
-    let mut i = 0;
-    while i < bytes.len() {
-        let place = std::num::wrapping_add_u64(offset, i as u64);
-        let ran = some(what, n, next, seen, place, &bytes[i..], out, end);
-        let after = ran.chain;
-        let r = ran.reader;
-        next = after;
-        seen = r;
-        end = ran.at;
-        i += ran.count;
+    let mut ran = Ran {
+        chain,
+        reader,
+        count: 0,
+        at,
+    };
+    // a turn is as long as the samples that it plays, so no iterator counts it
+    while ran.count < bytes.len() {
+        let place = offset.wrapping_add(ran.count as u64);
+        let rest = &bytes[ran.count..];
+        let more = some(what, n, ran.chain, ran.reader, place, rest, out, ran.at);
+        ran = Ran {
+            count: ran.count + more.count,
+            ..more
+        };
     }
-    Ran {
-        chain: next,
-        reader: seen,
-        count: i,
-        at: end,
-    }
+    ran
 }
 
 // Whether N is 1 to 8, and a buffer so long has room for so many samples at a place.
 fn has_room(n: usize, count: usize, long: usize, at: usize) -> bool
     ensures { result ≡ P.has_room n count at long }
 {
-    if !chain::checks::is_count(n) {
-        return false;
-    }
-    if at > long {
-        return false;
-    }
-    (long - at) / SAMPLE_ROOM >= count
+    chain::checks::is_count(n) && at <= long && (long - at) / SAMPLE_ROOM >= count
 }
 
 // Plays the samples up to the next byte that is none, the first of which has an offset, with the looks before them. Where N isn't 1 to 8,

@@ -10,22 +10,20 @@ fn recorded_in(b: u8) -> Dout
     ensures { result ≡ R.recorded_in b }
 {
     if b < 0x10 {
-        return Dout::Missing;
+        Dout::Missing
+    } else if base::field(b as u16, 3, 1) == 1 {
+        Dout::High
+    } else {
+        Dout::Low
     }
-    if base::field(b as u16, 3, 1) == 1 {
-        return Dout::High;
-    }
-    Dout::Low
 }
 
 // Whether there is an edge of DCLK or LOAD.
 fn is_edge(was: u8, now: u8) -> bool
     ensures { result ≡ R.is_edge was «now» }
 {
-    if base::field(was as u16, 1, 1) != base::field(now as u16, 1, 1) {
-        return true;
-    }
-    base::field(was as u16, 2, 1) != base::field(now as u16, 2, 1)
+    base::field(was as u16, 1, 1) != base::field(now as u16, 1, 1)
+        || base::field(was as u16, 2, 1) != base::field(now as u16, 2, 1)
 }
 
 // A readout's bits, and one more.
@@ -33,20 +31,9 @@ fn bits_with(dout: Dout, bits: u8) -> u8
     ensures { result ≡ R.bits_with dout bits }
 {
     match dout {
-        Dout::NotYet => 0,
-        Dout::Missing => 0,
-        Dout::Low => {
-            if bits == 0 {
-                return 0;
-            }
-            bits % 128 * 2
-        }
-        Dout::High => {
-            if bits == 0 {
-                return 0;
-            }
-            bits % 128 * 2 + 1
-        }
+        Dout::Low if bits != 0 => bits % 128 * 2,
+        Dout::High if bits != 0 => bits % 128 * 2 + 1,
+        _ => 0,
     }
 }
 
@@ -54,13 +41,11 @@ fn bits_with(dout: Dout, bits: u8) -> u8
 fn cut_by(rises: bool, bits: u8) -> Note
     ensures { result ≡ R.cut_by rises bits }
 {
-    if !rises {
-        return Note::Nothing;
+    if rises && bits != 0 {
+        Note::Cut
+    } else {
+        Note::Nothing
     }
-    if bits == 0 {
-        return Note::Nothing;
-    }
-    Note::Cut
 }
 
 // What a fall of DCLK tells in a readout, with so many bits left before it.
@@ -69,37 +54,33 @@ fn fall_tells(rises: bool, left: u8, before: u8, bits: u8) -> Note
 {
     if bits == 0 {
         if before == 0 {
-            return Note::Nothing;
+            Note::Nothing
+        } else {
+            Note::Cut
         }
-        return Note::Cut;
+    } else if left != 1 {
+        cut_by(rises, bits)
+    } else if bits < 128 {
+        Note::Cut
+    } else {
+        Note::Code(bits % 128)
     }
-    if left != 1 {
-        return cut_by(rises, bits);
-    }
-    if bits < 128 {
-        return Note::Cut;
-    }
-    Note::Code(bits % 128)
 }
 
 // A readout runs: at a fall of DCLK DOUT is its next bit.
 fn in_readout(falls: bool, rises: bool, left: u8, reader: Reader) -> Looked
     ensures { result ≡ R.in_readout falls rises left reader }
 {
-    let dout = reader.dout;
-    let before = reader.bits;
     if !falls {
         return Looked {
             reader,
-            note: cut_by(rises, before),
+            note: cut_by(rises, reader.bits),
         };
     }
-    let bits = bits_with(dout, before);
-    let mut next = reader;
-    next.bits = bits;
+    let bits = bits_with(reader.dout, reader.bits);
     Looked {
-        reader: next,
-        note: fall_tells(rises, left, before, bits),
+        reader: Reader { bits, ..reader },
+        note: fall_tells(rises, left, reader.bits, bits),
     }
 }
 
@@ -108,40 +89,35 @@ fn interrupt(quiet: bool) -> Note
     ensures { result ≡ R.interrupt_where quiet }
 {
     if quiet {
-        return Note::Interrupt;
+        Note::Interrupt
+    } else {
+        Note::Nothing
     }
-    Note::Nothing
 }
 
 // KEYB is on, and no readout runs.
 fn outside(reader: Reader) -> Looked
     ensures { result ≡ R.outside reader.dout reader }
 {
-    let dout = reader.dout;
-    let mut next = reader;
-    match dout {
-        Dout::NotYet => Looked {
+    match reader.dout {
+        Dout::NotYet | Dout::Missing => Looked {
             reader,
             note: Note::Nothing,
         },
-        Dout::Missing => Looked {
-            reader,
+        Dout::Low => Looked {
+            reader: Reader {
+                quiet: false,
+                ..reader
+            },
+            note: interrupt(reader.quiet),
+        },
+        Dout::High => Looked {
+            reader: Reader {
+                quiet: true,
+                ..reader
+            },
             note: Note::Nothing,
         },
-        Dout::Low => {
-            next.quiet = false;
-            Looked {
-                reader: next,
-                note: interrupt(reader.quiet),
-            }
-        }
-        Dout::High => {
-            next.quiet = true;
-            Looked {
-                reader: next,
-                note: Note::Nothing,
-            }
-        }
     }
 }
 
@@ -149,23 +125,17 @@ fn outside(reader: Reader) -> Looked
 fn latch_looked(same: bool, reader: Reader) -> Looked
     ensures { result ≡ R.latch_looked same reader }
 {
-    let mut next = reader;
-    next.agrees = same;
-    if same {
-        return Looked {
-            reader: next,
-            note: Note::Nothing,
-        };
-    }
-    if reader.agrees {
-        return Looked {
-            reader: next,
-            note: Note::Differs(reader.offset),
-        };
-    }
+    let note = if reader.agrees && !same {
+        Note::Differs(reader.offset)
+    } else {
+        Note::Nothing
+    };
     Looked {
-        reader: next,
-        note: Note::Nothing,
+        reader: Reader {
+            agrees: same,
+            ..reader
+        },
+        note,
     }
 }
 
@@ -173,13 +143,8 @@ fn latch_looked(same: bool, reader: Reader) -> Looked
 fn keypad_off(latch: bool, reader: Reader) -> Looked
     ensures { result ≡ R.keypad_off reader.dout latch reader }
 {
-    let dout = reader.dout;
-    match dout {
-        Dout::NotYet => Looked {
-            reader,
-            note: Note::Nothing,
-        },
-        Dout::Missing => Looked {
+    match reader.dout {
+        Dout::NotYet | Dout::Missing => Looked {
             reader,
             note: Note::Nothing,
         },
@@ -193,31 +158,31 @@ fn at_edge(last: Chip, was: u8, now: u8, reader: Reader) -> Looked
     ensures { result ≡ R.at_edge was «now» last reader }
 {
     if !last.settings.system.keyb {
-        return keypad_off(last.line.latch, reader);
+        keypad_off(last.line.latch, reader)
+    } else if last.line.readout.left == 0 {
+        outside(reader)
+    } else {
+        in_readout(
+            chip::edges::dclk_falls(was, now),
+            chip::edges::load_rises(was, now),
+            last.line.readout.left,
+            reader,
+        )
     }
-    if last.line.readout.left == 0 {
-        return outside(reader);
-    }
-    in_readout(
-        chip::edges::dclk_falls(was, now),
-        chip::edges::load_rises(was, now),
-        last.line.readout.left,
-        reader,
-    )
 }
 
 // Before a sample: where it is an edge, by the last chip.
+#[tactic(auto, unfolding(crate::specs::Reads::looked))]
 pub(crate) fn look(last: Chip, was: u8, now: u8, reader: Reader) -> Looked
     ensures { result ≡ R.looked was «now» last reader }
 {
-    if crate::is_looking(reader) {
-        if is_edge(was, now) {
-            return at_edge(last, was, now, reader);
+    if crate::is_looking(reader) && is_edge(was, now) {
+        at_edge(last, was, now, reader)
+    } else {
+        Looked {
+            reader,
+            note: Note::Nothing,
         }
-    }
-    Looked {
-        reader,
-        note: Note::Nothing,
     }
 }
 
@@ -225,25 +190,22 @@ pub(crate) fn look(last: Chip, was: u8, now: u8, reader: Reader) -> Looked
 fn begins_readout(last: Chip, was: u8, now: u8) -> bool
     ensures { result ≡ R.begins_readout was «now» last }
 {
-    if !chip::edges::load_rises(was, now) {
-        return false;
-    }
-    if !last.settings.system.keyb {
-        return false;
-    }
-    last.line.readout.left != 0
+    chip::edges::load_rises(was, now) && last.settings.system.keyb && last.line.readout.left != 0
 }
 
 // A read word begins a readout.
 fn begun(begins: bool, reader: Reader) -> Reader
     ensures { result ≡ R.begun begins reader }
 {
-    let mut next = reader;
     if begins {
-        next.bits = 1;
-        next.quiet = true;
+        Reader {
+            bits: 1,
+            quiet: true,
+            ..reader
+        }
+    } else {
+        reader
     }
-    next
 }
 
 // A sample's recorded DOUT and its offset are kept.
@@ -253,22 +215,21 @@ fn with_sample(dout: Dout, offset: u64, reader: Reader) -> Reader
     Reader {
         dout,
         offset,
-        bits: reader.bits,
-        quiet: reader.quiet,
-        agrees: reader.agrees,
+        ..reader
     }
 }
 
 // After a sample, by the last chip after it.
+#[tactic(auto, unfolding(crate::specs::Reads::kept))]
 pub(crate) fn kept(last: Chip, was: u8, b: u8, offset: u64, reader: Reader) -> Reader
     ensures { result ≡ R.kept was b offset last reader }
 {
     if crate::is_looking(reader) {
         let next = begun(begins_readout(last, was, b % 8), reader);
-        return with_sample(recorded_in(b), offset, next);
+        with_sample(recorded_in(b), offset, next)
+    } else if b < 0x10 {
+        reader
+    } else {
+        with_sample(recorded_in(b), offset, reader)
     }
-    if b < 0x10 {
-        return reader;
-    }
-    with_sample(recorded_in(b), offset, reader)
 }

@@ -11,8 +11,7 @@ fn code_line(k: u8, code: u8, out: &mut [u8], at: usize) -> usize
     requires { at + 19 ≤ length out.old }
     ensures { Puts (note_line k (N.Code code)) at out.old result out.new }
 {
-    let bytes = [0x16, k, code];
-    lines::put_line(&bytes, out, at)
+    lines::put_line(&[0x16, k, code], out, at)
 }
 
 // A readout that was cut: 17, chip.
@@ -20,8 +19,7 @@ fn cut_line(k: u8, out: &mut [u8], at: usize) -> usize
     requires { at + 19 ≤ length out.old }
     ensures { Puts (note_line k N.Cut) at out.old result out.new }
 {
-    let bytes = [0x17, k];
-    lines::put_line(&bytes, out, at)
+    lines::put_line(&[0x17, k], out, at)
 }
 
 // An interrupt that was seen: 18, chip.
@@ -29,8 +27,7 @@ fn interrupt_line(k: u8, out: &mut [u8], at: usize) -> usize
     requires { at + 19 ≤ length out.old }
     ensures { Puts (note_line k N.Interrupt) at out.old result out.new }
 {
-    let bytes = [0x18, k];
-    lines::put_line(&bytes, out, at)
+    lines::put_line(&[0x18, k], out, at)
 }
 
 // Where DOUT begins to differ from the latch: 15, and the sample's offset in eight bytes.
@@ -38,10 +35,8 @@ fn differs_line(k: u8, offset: u64, out: &mut [u8], at: usize) -> usize
     requires { at + 19 ≤ length out.old }
     ensures { Puts (note_line k (N.Differs offset)) at out.old result out.new }
 {
-    let eight = lines::eight_bytes(offset);
-    let bytes = [
-        0x15, eight[0], eight[1], eight[2], eight[3], eight[4], eight[5], eight[6], eight[7],
-    ];
+    let mut bytes = [0x15; 9];
+    bytes[1..].copy_from_slice(&lines::eight_bytes(offset));
     lines::put_line(&bytes, out, at)
 }
 

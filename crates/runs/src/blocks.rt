@@ -1,12 +1,12 @@
 // C-11's blocks: the places of LOAD rises in a lent list, a record that goes on from block to block, and its refusals.
 use crate::chains::refused;
+use base::Handed;
 use chain::Chain;
-use chain::blocks::{AfterBlock, Rises};
 use std::io;
 
 pub fn run(rt: &impl Print) -> io::Result<()> {
     let first = chain::start(1);
-    let idle = first.chain;
+    let idle = first.value;
     rt.print("block 3, 7, a list of 1: ")?;
     one(rt, 1, idle, b"\x03\x07")?;
     rt.print("block 3, 7, a list of 0: ")?;
@@ -64,16 +64,16 @@ fn place(rt: &impl Print, n: u64) -> io::Result<()> {
 }
 
 // The levels kept, and the record.
-fn kept(rt: &impl Print, after: AfterBlock) -> io::Result<Chain> {
-    let next = after.chain;
+fn kept(rt: &impl Print, after: Handed<Chain, usize>) -> io::Result<Chain> {
+    let next = after.value;
     println!(rt; ", levels {:02x}", next.levels)?;
     Ok(next)
 }
 
 // How many rises there were, or why the block was refused.
-fn rises(rt: &impl Print, after: AfterBlock) -> io::Result<()> {
+fn rises(rt: &impl Print, after: Handed<Chain, usize>) -> io::Result<()> {
     match after.answer {
-        Rises::Count(count) => print!(rt; "{count} in the list"),
-        Rises::Refused(e) => refused(rt, e),
+        Ok(count) => print!(rt; "{count} in the list"),
+        Err(e) => refused(rt, e),
     }
 }

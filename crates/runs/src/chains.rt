@@ -1,7 +1,7 @@
 // Document 01's cases of a chain: 8 and 9 chips, samples 7 and 8, empty blocks, and the readout of P12 at the host's DOUT.
-use base::{Refusal, Verdict};
+use base::{Handed, Refusal};
 use chain::Chain;
-use chip::ScanAnswer;
+use chip::Recorded;
 use std::io;
 use word::{Command, System};
 
@@ -18,10 +18,10 @@ pub fn run(rt: &impl Print) -> io::Result<()> {
     finder(rt)
 }
 
-pub fn verdict(rt: &impl Print, v: Verdict) -> io::Result<()> {
+pub fn verdict(rt: &impl Print, v: Result<(), Refusal>) -> io::Result<()> {
     match v {
-        Verdict::Done => rt.print("done"),
-        Verdict::Refused(e) => refused(rt, e),
+        Ok(()) => rt.print("done"),
+        Err(e) => refused(rt, e),
     }
 }
 
@@ -49,14 +49,14 @@ pub fn refused(rt: &impl Print, e: Refusal) -> io::Result<()> {
 }
 
 // Whether a chain was refused, and the levels that it keeps.
-fn answered(rt: &impl Print, h: chain::HandedChain) -> io::Result<()> {
+fn answered(rt: &impl Print, h: Handed<Chain, ()>) -> io::Result<()> {
     verdict(rt, h.answer)?;
-    println!(rt; ", levels {:02x}", h.chain.levels)
+    println!(rt; ", levels {:02x}", h.value.levels)
 }
 
 fn blocks(rt: &impl Print) -> io::Result<()> {
     let eight = chain::start(8);
-    let ch = eight.chain;
+    let ch = eight.value;
     rt.print("an empty block: ")?;
     answered(rt, chain::play::play(8, ch, b""))?;
     rt.print("samples 3, 7: ")?;
@@ -71,19 +71,19 @@ fn blocks(rt: &impl Print) -> io::Result<()> {
     answered(rt, chain::one::apply(8, ch, 8, Command::BarLevel(128)))
 }
 
-// What a scan answers, as a verdict.
-fn scan_verdict(s: chain::one::Scanned) -> Verdict {
+// What a scan answers, without what it recorded.
+fn scan_verdict(s: Handed<Chain, Recorded>) -> Result<(), Refusal> {
     let answer = s.answer;
     match answer {
-        ScanAnswer::Took(_) => Verdict::Done,
-        ScanAnswer::Refused(e) => Verdict::Refused(e),
+        Ok(_) => Ok(()),
+        Err(e) => Err(e),
     }
 }
 
 // A scan of a chip that isn't there, and a record that no chip can hold, below N and from N on.
 fn records(rt: &impl Print) -> io::Result<()> {
     let eight = chain::start(8);
-    let mut ch = eight.chain;
+    let mut ch = eight.value;
     rt.print("a scan of chip 8 of 8: ")?;
     verdict(rt, scan_verdict(chain::one::scan(8, ch, 8, [0; 8])))?;
     rt.println("")?;
@@ -104,25 +104,25 @@ fn holding() -> Chain {
         disp: false,
     };
     let first = chain::start(1);
-    let told = chain::one::apply(1, first.chain, 0, Command::SystemParameters(on));
-    let once = chain::one::scan(1, told.chain, 0, [0, 0, 0, 0x10, 0, 0, 0, 0]);
-    let twice = chain::one::scan(1, once.chain, 0, [0, 0, 0, 0x10, 0, 0, 0, 0]);
-    twice.chain
+    let told = chain::one::apply(1, first.value, 0, Command::SystemParameters(on));
+    let once = chain::one::scan(1, told.value, 0, [0, 0, 0, 0x10, 0, 0, 0, 0]);
+    let twice = chain::one::scan(1, once.value, 0, [0, 0, 0, 0x10, 0, 0, 0, 0]);
+    twice.value
 }
 
 // What the host sees: H or L.
 fn see(rt: &impl Print, ch: Chain) -> io::Result<()> {
     let seen = chain::host_sees(1, ch);
-    rt.print(if seen.level { "H" } else { "L" })
+    rt.print(if seen.value { "H" } else { "L" })
 }
 
 // One clock, after which the host looks.
 fn clock(rt: &impl Print, ch: Chain) -> io::Result<Chain> {
     let fall = chain::play::play(1, ch, b"\x05");
-    let mid = fall.chain;
+    let mid = fall.value;
     see(rt, mid)?;
     let rise = chain::play::play(1, mid, b"\x07");
-    Ok(rise.chain)
+    Ok(rise.value)
 }
 
 // 1^1^1^0^ and LOAD, then clocks: the sheet's 5.5 and P12.
@@ -131,7 +131,7 @@ fn readout(rt: &impl Print) -> io::Result<()> {
     rt.print("5.5 code 63: interrupt ")?;
     see(rt, ch)?;
     let sent = chain::play::play(1, ch, b"\x05\x07\x05\x07\x05\x07\x04\x06\x03\x07");
-    let start = sent.chain;
+    let start = sent.value;
     rt.print(", readout ")?;
     see(rt, start)?;
     let six = clock(
@@ -156,8 +156,8 @@ fn finder(rt: &impl Print) -> io::Result<()> {
 
 fn found(rt: &impl Print, f: chain::finder::Found) -> io::Result<()> {
     match f.rise {
-        chain::finder::Rise::At(place) => print!(rt; "at {place}")?,
-        chain::finder::Rise::Nothing => rt.print("none")?,
+        Some(place) => print!(rt; "at {place}")?,
+        None => rt.print("none")?,
     }
     print!(rt; ", passed {}, ", f.passed)?;
     verdict(rt, f.answer)?;

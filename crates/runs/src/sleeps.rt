@@ -82,7 +82,7 @@ fn seen(rt: &impl Print, ch: Chain) -> io::Result<()> {
 
 fn play(ch: Chain, row: &[u8]) -> Chain {
     let h = chain::play::play(1, ch, row);
-    h.chain
+    h.value
 }
 
 // The display on and 06H in DIG0, then off, then sleep.
@@ -93,7 +93,7 @@ fn played(rt: &impl Print) -> io::Result<()> {
     answered(rt, writer::write(1, &words, &mut out))?;
     let s = &out[..];
     let start = chain::start(1);
-    let lit = play(start.chain, &s[0..52]);
+    let lit = play(start.value, &s[0..52]);
     rt.print("DIG0 lights ")?;
     seen(rt, lit)?;
     let dark = play(lit, &s[52..78]);

@@ -2,9 +2,8 @@
 // while asleep, sample 4 after a good command, key codes 127 and 128, 64 and 65 commands, a buffer exact and one short. The command is 48H,
 // 01H, which turns the display on.
 use crate::chains;
+use base::{Handed, Refusal};
 use ch450::Panel;
-use ch450::play::{PlayAnswer, Played};
-use ch450::writer::Written;
 use std::io;
 
 pub fn run(rt: &impl Print) -> io::Result<()> {
@@ -16,18 +15,18 @@ pub fn run(rt: &impl Print) -> io::Result<()> {
 }
 
 // The command whole.
-fn command(p: Panel, key: u8) -> Played {
+fn command(p: Panel, key: u8) -> Handed<Panel, usize> {
     let words = [0x4801u16];
     let mut out = [0u8; 40];
-    ch450::writer::write(&words, &mut out);
+    let _ = ch450::writer::write(&words, &mut out);
     ch450::play::play(p, key, &out)
 }
 
 // And sample 4 after it.
-fn command_and_four(key: u8) -> Played {
+fn command_and_four(key: u8) -> Handed<Panel, usize> {
     let words = [0x4801u16];
     let mut out = [4u8; 41];
-    ch450::writer::write(&words, &mut out);
+    let _ = ch450::writer::write(&words, &mut out);
     ch450::play::play(idle(), key, &out)
 }
 
@@ -35,7 +34,7 @@ fn command_and_four(key: u8) -> Played {
 fn bytes() -> Panel {
     let words = [0x4801u16];
     let mut out = [0u8; 40];
-    ch450::writer::write(&words, &mut out);
+    let _ = ch450::writer::write(&words, &mut out);
     let s = &out[..];
     after(play(idle(), &s[0..35]))
 }
@@ -44,7 +43,7 @@ fn bytes() -> Panel {
 fn all_but_the_stop() -> Panel {
     let words = [0x4801u16];
     let mut out = [0u8; 40];
-    ch450::writer::write(&words, &mut out);
+    let _ = ch450::writer::write(&words, &mut out);
     let s = &out[..];
     after(play(idle(), &s[0..38]))
 }
@@ -75,7 +74,7 @@ fn sleep_of(p: Panel) -> u8 {
 fn asleep(rt: &impl Print) -> io::Result<()> {
     let words = [0x4881u16];
     let mut out = [0u8; 40];
-    ch450::writer::write(&words, &mut out);
+    let _ = ch450::writer::write(&words, &mut out);
     let sleeping = after(play(idle(), &out));
     let unknown =
         b"\x01\x00\x01\x02\x03\x00\x01\x00\x01\x00\x01\x02\x03\x02\x03\x02\x03\x02\x03\x00\x01\x00\x01\x00\x01\x00\x01\x00\x01\x00\x01\x00\x01\x02\x03\x02\x03\x00\x01\x03";
@@ -102,21 +101,21 @@ fn idle() -> Panel {
     ch450::power_on([0; 6])
 }
 
-fn play(p: Panel, samples: &[u8]) -> Played {
+fn play(p: Panel, samples: &[u8]) -> Handed<Panel, usize> {
     ch450::play::play(p, 0x23, samples)
 }
 
-fn after(h: Played) -> Panel {
-    h.panel
+fn after(h: Handed<Panel, usize>) -> Panel {
+    h.value
 }
 
 // How many reads there were, or the refusal; and the panel after it.
-fn shown(rt: &impl Print, h: Played) -> io::Result<()> {
+fn shown(rt: &impl Print, h: Handed<Panel, usize>) -> io::Result<()> {
     match h.answer {
-        PlayAnswer::Reads(count) => print!(rt; "{count} reads")?,
-        PlayAnswer::Refused(e) => chains::refused(rt, e)?,
+        Ok(count) => print!(rt; "{count} reads")?,
+        Err(e) => chains::refused(rt, e)?,
     }
-    let p = h.panel;
+    let p = h.value;
     let disp = u8::from(p.settings.disp);
     let running = u8::from(p.wires.running);
     println!(rt;
@@ -126,10 +125,10 @@ fn shown(rt: &impl Print, h: Played) -> io::Result<()> {
 }
 
 // How many samples were written, or the refusal.
-fn answered(rt: &impl Print, w: Written) -> io::Result<()> {
+fn answered(rt: &impl Print, w: Result<usize, Refusal>) -> io::Result<()> {
     match w {
-        Written::Samples(count) => print!(rt; "{count} samples")?,
-        Written::Refused(e) => chains::refused(rt, e)?,
+        Ok(count) => print!(rt; "{count} samples")?,
+        Err(e) => chains::refused(rt, e)?,
     }
     rt.println("")
 }

@@ -1,9 +1,9 @@
 // Document 01's cases of the writer: 64 and 65 rows, 8 and 9 chips, a buffer exact and one short, lists that are refused, and a
 // list that is written, played and scanned between.
 use crate::chains::refused;
+use base::Refusal;
 use chain::Chain;
 use std::io;
-use writer::Written;
 
 pub fn run(rt: &impl Print) -> io::Result<()> {
     rows(rt)?;
@@ -13,10 +13,10 @@ pub fn run(rt: &impl Print) -> io::Result<()> {
 }
 
 // How many samples were written, or the refusal.
-pub fn answered(rt: &impl Print, w: Written) -> io::Result<()> {
+pub fn answered(rt: &impl Print, w: Result<usize, Refusal>) -> io::Result<()> {
     match w {
-        Written::Samples(count) => print!(rt; "{count} samples")?,
-        Written::Refused(e) => refused(rt, e)?,
+        Ok(count) => print!(rt; "{count} samples")?,
+        Err(e) => refused(rt, e)?,
     }
     rt.println("")
 }
@@ -92,12 +92,12 @@ fn seen(rt: &impl Print, ch: Chain) -> io::Result<()> {
 
 fn play(ch: Chain, block: &[u8]) -> Chain {
     let h = chain::play::play(3, ch, block);
-    h.chain
+    h.value
 }
 
 fn press(ch: Chain) -> Chain {
     let h = chain::one::scan(3, ch, 2, [0, 0, 0, 0x10, 0, 0, 0, 0]);
-    h.chain
+    h.value
 }
 
 // Three chips: 11H, 22H in the first two and the keypad on in the last; a key pressed in the middle of the second row, which
@@ -109,7 +109,7 @@ fn played(rt: &impl Print) -> io::Result<()> {
     answered(rt, writer::write(3, &words, &mut out))?;
     let s = &out[..];
     let start = chain::start(3);
-    let first = play(start.chain, &s[0..74]);
+    let first = play(start.value, &s[0..74]);
     rt.print("after the first row: ")?;
     seen(rt, first)?;
     let pressed = press(press(play(first, &s[74..100])));

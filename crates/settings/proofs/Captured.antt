@@ -12,16 +12,14 @@ use native.Mathlib.Omega.{arith}
 use lib.Arith.{digits_div}
 use lib.ListN.{length, take, drop, length-append}
 use lib.Seq.{take_at}
-use Rattle.base.specs.Refusals.{done, refused_by}
+use Rattle.base.specs.Refusals.{done, refused_by, tells}
 use Rattle.base.specs.declared.Refusal.{Refusal}
 use Rattle.chain.specs.Chain.{most}
 use Rattle.lines.specs.Answers.{Puts}
 use Rattle.lines.specs.Lines.{line_for}
 use Rattle.lines.proofs.Puts.{line_for_length, puts_room, puts_both}
-use Rattle.writer.specs.declared.Written.{Written}
-use Rattle.writer.specs.declared.Written.TheVariants as Answers
 use Rattle.writer.specs.Rows.{cut_rows, samples_of, width, written, list_test}
-use Rattle.writer.specs.Written.{written_tells, room, answer_of, Writes}
+use Rattle.writer.specs.Written.{room, answer_of, Writes}
 use Rattle.writer.proofs.Answered.{refusal_told, room_told, written_part}
 use Rattle.writer.proofs.Stretches.{samples_length}
 use Rattle.settings.specs.declared.Kiosk.{Kiosk}
@@ -32,6 +30,8 @@ use Rattle.settings.proofs.Bytes.{OneToMost, count_within}
 use Rattle.settings.proofs.Printing.{lines_length}
 use Rattle.settings.proofs.Putting.{words_length}
 use Rattle.settings.proofs.Texts.{passes, kept_length}
+use Rattle.std.specs.declared.result.Result.{Result}
+use Rattle.std.specs.declared.result.Result.TheVariants.{Ok, Err}
 
 pub puts_taken : {piece out : List ℕ} {r : ℕ} {out' : List ℕ} → Puts piece 0 out r out' → take r out' ≡ piece
 puts_taken {piece} {out} {r} {out'} put =
@@ -70,18 +70,18 @@ module _ (kiosk : Kiosk) (passed : settings_test kiosk ≡ done tt) (size : leng
 
   -- ---- what the writer answers
 
-  module _ {words : List ℕ} (same : words ≡ kiosk_words kiosk) {samples : List ℕ} {w : Written} {samples' : List ℕ}
+  module _ {words : List ℕ} (same : words ≡ kiosk_words kiosk) {samples : List ℕ} {w : Result ℕ Refusal} {samples' : List ℕ}
       (writes : Writes n words samples w samples') (have : length samples ≡ 776) where
     so : Writes n (kiosk_words kiosk) samples w samples'
     so = subst (λ ws. Writes n ws samples w samples') same writes
 
-    pub row_refused : {e : Refusal} → w ≡ Answers.Refused e → list_test n (kiosk_words kiosk) ≡ refused_by e
+    pub row_refused : {e : Refusal} → w ≡ Err e → list_test n (kiosk_words kiosk) ≡ refused_by e
     unfolding answer_of
     row_refused {e} q =
         let few = count.few in
-        refusal_told (list_test n (kiosk_words kiosk)) (room n (kiosk_words kiosk)) (length samples) (omega (arith, need_is)) (sym so.answer ∙ ap written_tells q)
+        refusal_told (list_test n (kiosk_words kiosk)) (room n (kiosk_words kiosk)) (length samples) (omega (arith, need_is)) (sym so.answer ∙ ap tells q)
 
-    module _ {many : ℕ} (q : w ≡ Answers.Samples many) where
+    module _ {many : ℕ} (q : w ≡ Ok many) where
       pub row_done : list_test n (kiosk_words kiosk) ≡ done tt
       row_done = (written_part n (kiosk_words kiosk) samples samples' w many so q).0
 

@@ -1,10 +1,8 @@
 -- The frames of a text, seen from the tests of the code that reads them.
 --     frame_byte                                             a byte of a frame's array
 --     version_short, version_other, version_so               the version, by the first four characters
---     first_size, first_kind, first_count, first_so          the first line's bytes, test by test
+--     first_size, chip_size                                  other numbers of bytes are no first line, and no chip's
 --     first_few                                              no more chips than there can be
---     fields_high, fields_two, fields_display, fields_so     the four bytes of settings, test by test
---     chip_size, chip_kind, chip_place, chip_so              a chip's bytes, test by test
 --     chip_long, first_long, chip_six                        more bytes than a frame holds are no frame of settings; a chip's are six
 -- Assumes nothing.
 use mathlib.Core.Path.{◌≡◌, refl, ap, sym, subst, ◌∙◌}
@@ -12,10 +10,9 @@ use mathlib.Core.Bool.{Bool, true, false, ◌&&◌}
 use mathlib.Core.List.{List, [], ◌∷◌, ◌++◌}
 use Prim.Native.Nat.{ℕ, zero, suc, ◌%◌, ◌≤◌, ◌<◌}
 use native.Mathlib.Omega.{arith}
-use borrow.Author.Tests.{le-leb, lt-leb, eq-eqb, ne_eqb, eqb-true, leb-true}
+use borrow.Author.Tests.{le-leb, eq-eqb, ne_eqb, eqb-true, leb-true}
 use lib.Dec.{T, eqb, leb}
 use lib.ListN.{length, get_or, drop, take, replicate, length-take, drop_of_length-le}
-use Rattle.base.specs.Bits.{cut}
 use Rattle.base.specs.Lent.{laid}
 use Rattle.base.specs.Pick.{pick}
 use Rattle.base.proofs.Picks.{pick_yes, pick_no, pick_cases}
@@ -97,19 +94,6 @@ module _ (bytes : List ℕ) where
   unfolding is_first
   first_size ne = simp (ne_eqb (length bytes) 3 ne)
 
-  pub first_kind : length bytes ≡ 3 → (get_or bytes 0 0 ≡ 0x20 → ⊥) → is_first bytes ≡ false
-  unfolding is_first
-  first_kind e ne = simp (eq-eqb (length bytes) 3 e, ne_eqb (get_or bytes 0 0) 0x20 ne)
-
-  pub first_count : length bytes ≡ 3 → get_or bytes 0 0 ≡ 0x20 → chip_count (get_or bytes 2 0) ≡ false → is_first bytes ≡ false
-  unfolding is_first
-  first_count e k q = simp (eq-eqb (length bytes) 3 e, eq-eqb (get_or bytes 0 0) 0x20 k, q)
-
-  pub first_so : length bytes ≡ 3 → get_or bytes 0 0 ≡ 0x20 → chip_count (get_or bytes 2 0) ≡ true
-      → is_first bytes ≡ eqb (get_or bytes 1 0) (version_for (get_or bytes 2 0))
-  unfolding is_first
-  first_so e k q = simp (eq-eqb (length bytes) 3 e, eq-eqb (get_or bytes 0 0) 0x20 k, q)
-
   pub first_few : is_first bytes ≡ true → get_or bytes 2 0 ≤ most
   unfolding is_first
   first_few e =
@@ -119,40 +103,12 @@ module _ (bytes : List ℕ) where
       let t : T (size && kind && chip_count n && eqb (get_or bytes 1 0) (version_for n)) = subst T (sym e) tt in
       leb-true n most (is_true (leb n most) (and_right (leb 1 n) (leb n most) (and_right (size && kind) (chip_count n) (and_left (size && kind && chip_count n) _ t))))
 
--- ---- the four bytes of settings
-
-module _ (system display custom : ℕ) where
-  pub fields_high : (cut system 6 2 ≡ 0 → ⊥) → in_fields system display custom ≡ false
-  fields_high ne = simp (ne_eqb (cut system 6 2) 0 ne)
-
-  pub fields_two : cut system 6 2 ≡ 0 → cut system 2 1 ≡ 1 → in_fields system display custom ≡ false
-  fields_two e q = simp (eq-eqb (cut system 6 2) 0 e, eq-eqb (cut system 2 1) 1 q)
-
-  pub fields_display : cut system 6 2 ≡ 0 → (cut system 2 1 ≡ 1 → ⊥) → 0x0F < display → in_fields system display custom ≡ false
-  fields_display e q h = simp (eq-eqb (cut system 6 2) 0 e, ne_eqb (cut system 2 1) 1 q, lt-leb display 0x0F h)
-
-  pub fields_so : cut system 6 2 ≡ 0 → (cut system 2 1 ≡ 1 → ⊥) → display ≤ 0x0F → in_fields system display custom ≡ leb custom 0x7F
-  fields_so e q h = simp (eq-eqb (cut system 6 2) 0 e, ne_eqb (cut system 2 1) 1 q, le-leb display 0x0F h)
-
 -- ---- a chip's line
 
 module _ (k : ℕ) (bytes : List ℕ) where
   pub chip_size : (length bytes ≡ 6 → ⊥) → is_chip k bytes ≡ false
   unfolding is_chip
   chip_size ne = simp (ne_eqb (length bytes) 6 ne)
-
-  pub chip_kind : length bytes ≡ 6 → (get_or bytes 0 0 ≡ 0x21 → ⊥) → is_chip k bytes ≡ false
-  unfolding is_chip
-  chip_kind e ne = simp (eq-eqb (length bytes) 6 e, ne_eqb (get_or bytes 0 0) 0x21 ne)
-
-  pub chip_place : length bytes ≡ 6 → get_or bytes 0 0 ≡ 0x21 → (get_or bytes 1 0 ≡ k → ⊥) → is_chip k bytes ≡ false
-  unfolding is_chip
-  chip_place e q ne = simp (eq-eqb (length bytes) 6 e, eq-eqb (get_or bytes 0 0) 0x21 q, ne_eqb (get_or bytes 1 0) k ne)
-
-  pub chip_so : length bytes ≡ 6 → get_or bytes 0 0 ≡ 0x21 → get_or bytes 1 0 ≡ k
-      → is_chip k bytes ≡ in_fields (get_or bytes 2 0) (get_or bytes 3 0) (get_or bytes 5 0)
-  unfolding is_chip
-  chip_so e q p = simp (eq-eqb (length bytes) 6 e, eq-eqb (get_or bytes 0 0) 0x21 q, eq-eqb (get_or bytes 1 0) k p)
 
   pub chip_long : 33 < length bytes → is_chip k bytes ≡ is_chip k []
   unfolding is_chip

@@ -4,45 +4,32 @@
 --     write_unique, rows_unique        the answer, and the buffer after it
 --     again_unique, setup_unique       the answer, how many bytes, and the array after it
 -- Assumes nothing.
-use mathlib.Core.Path.{◌≡◌, refl, ap}
+use mathlib.Core.Path.{◌≡◌, refl}
 use mathlib.Core.List.{List}
 use Prim.Native.Nat.{ℕ}
-use Rattle.base.specs.Refusals.{Told, done, refused}
+use Rattle.base.specs.Refusals.{Told}
 use Rattle.base.specs.Unique.{AllowsOne}
-use Rattle.base.proofs.Refusals.{refusal_of, refusal_back}
-use Rattle.base.proofs.Unique.{same_answer, same_telling, same_verdict}
+use Rattle.base.proofs.Unique.{same_answer, same_told, same_result, same_handed}
 use Rattle.capture.specs.declared.Replayed.{Replayed}
 use Rattle.settings.specs.declared.Kiosk.{Kiosk}
-use Rattle.settings.specs.declared.Put.{Put}
-use Rattle.settings.specs.declared.Put.TheVariants.{Count, Refused}
-use Rattle.settings.specs.Putting.{put_tells, Fits}
+use Rattle.settings.specs.Putting.{Fits}
 use Rattle.settings.specs.Printing.{Prints}
 use Rattle.settings.proofs.read
 use Rattle.settings.proofs.write
 use Rattle.settings.proofs.rows
 use Rattle.settings.proofs.again
 use Rattle.settings.proofs.setup
+use Rattle.std.specs.declared.result.Result.{Result}
+use Rattle.base.specs.declared.Refusal.{Refusal}
 
 pub read_unique : AllowsOne read.Kinds.ps read.Kinds.r read.Reads.Learnt
-read_unique κs a x y last last' p q =
-    let same = same_answer p q in
-    let answer = same_verdict {v = x.answer} {w = y.answer} (ap (λ o. o.told) same) in
-    (λ i. record { kiosk = ap (λ o. o.state) same i; answer = answer i }, refl)
+read_unique κs a x y last last' p q = (same_handed p q, refl)
 
 -- ---- a buffer that is lent
 
-put : Told ℕ → Put
-put (done count) = Count count
-put (refused number place) = Refused (refusal_of number place)
-
-put_back : (r : Put) → put (put_tells r) ≡ r
-unfolding put
-put_back (Count count) = refl
-put_back (Refused e) = ap Refused (refusal_back e)
-
 -- two answers to one buffer
-same_put : {kiosk : Kiosk} {piece out out' out'' : List ℕ} {r s : Put} → Fits kiosk piece out r out' → Fits kiosk piece out s out'' → r ≡ s
-same_put {r = r} {s = s} p q = same_telling put_tells put put_back r s p.answer q.answer
+same_put : {kiosk : Kiosk} {piece out out' out'' : List ℕ} {r s : Result ℕ Refusal} → Fits kiosk piece out r out' → Fits kiosk piece out s out'' → r ≡ s
+same_put p q = same_told p.answer q.answer
 
 pub write_unique : AllowsOne write.Kinds.ps write.Kinds.r write.Reads.Learnt
 write_unique κs a x y last last' p q = (same_put p q, λ i. (tt, (same_answer p.buffer q.buffer i, tt)))
@@ -57,7 +44,7 @@ same_printed : {end : Told (Unit {0})} {piece out out' out'' : List ℕ} {r s : 
     → Prints end piece out r out' → Prints end piece out s out'' → r ≡ s
 same_printed {r = r} {s = s} p q =
     let count = same_answer p.count q.count in
-    let answer = same_verdict {v = r.answer} {w = s.answer} (same_answer p.answer q.answer) in
+    let answer = same_result {r = r.answer} {s = s.answer} (same_answer p.answer q.answer) in
     λ i. record { bytes = count i; answer = answer i }
 
 pub again_unique : AllowsOne again.Kinds.ps again.Kinds.r again.Reads.Learnt

@@ -2,7 +2,7 @@
 --     Left                                         the loop's invariant: what is left of the text gives what the whole gives
 --     left_start, left_more                        it holds at the start, and after a chip's line
 --     left_cut, left_refused, left_extra           a line that is missing or cut off, one that isn't the chip's, one too many
---     left-over                                    the end
+--     left_over                                    the end
 --     lines_missing, lines_other, lines_first      the first line, and the whole
 --     lines_few                                    it gives no more chips than there can be
 -- Assumes nothing.

@@ -3,7 +3,7 @@
 -- Assumes nothing.
 use Rattle.std.specs.Prelude.{◌≡◌, ℕ, zero, suc, ◌+◌, ◌/◌, List, [], ◌∷◌, ◌++◌, length, take, drop}
 use Rattle.base.specs.Lent.{laid}
-use Rattle.base.specs.Refusals.{Told, done, refused, verdict_tells}
+use Rattle.base.specs.Refusals.{Told, done, refused, tells}
 use Rattle.lines.specs.Lines.{line_for}
 use Rattle.capture.specs.declared.Replayed.{Replayed}
 use Rattle.capture.specs.Reports.{refusal_line}
@@ -55,7 +55,7 @@ out_by (refused number place) piece = refusal_line number place
 -- what `again` and `setup` do: the output stands at the front of the lent array, the rest is as it was, and the answer is how many bytes
 -- it has and how the text ended
 pub record Prints (end : Told (Unit {0})) (piece out : List ℕ) (r : Replayed) (out' : List ℕ) : Type 0 where
-  pub answer : verdict_tells r.answer ≡ end
+  pub answer : tells r.answer ≡ end
   pub count : r.bytes ≡ length (out_by end piece)
   pub bytes : out' ≡ laid (out_by end piece) out
 

@@ -3,17 +3,12 @@
 use Rattle.std.specs.Prelude.{◌≡◌, ℕ, List, leb, length}
 use Rattle.base.specs.Lent.{laid}
 use Rattle.base.specs.Pick.{pick}
-use Rattle.base.specs.Refusals.{Told, done, refused, refused_by}
+use Rattle.base.specs.Refusals.{Told, done, refused, tells}
 use Rattle.chain.specs.Chain.{chip_count}
 use Rattle.settings.specs.declared.Kiosk.{Kiosk}
-use Rattle.settings.specs.declared.Put.{Put}
-use Rattle.settings.specs.declared.Put.TheVariants.{Count, Refused}
 use Rattle.settings.specs.Settings.{kept_in, all_legal, text_of, words_of}
-
--- what an answer tells
-abbrev pub put_tells : Put → Told ℕ
-put_tells (Count count) = done count
-put_tells (Refused e) = refused_by e
+use Rattle.std.specs.declared.result.Result.{Result}
+use Rattle.base.specs.declared.Refusal.{Refusal}
 
 -- the settings, whatever the buffer: refusals 3, 9
 unfoldable pub settings_test : Kiosk → Told (Unit {0})
@@ -30,14 +25,14 @@ buffer_by (refused number place) piece out = out
 buffer_by (done count) piece out = laid piece out
 
 -- what `write` and `rows` do with their piece: the answer, and the buffer after it
-pub record Fits (kiosk : Kiosk) (piece out : List ℕ) (r : Put) (out' : List ℕ) : Type 0 where
-  pub answer : put_tells r ≡ answer_by (settings_test kiosk) piece out
+pub record Fits (kiosk : Kiosk) (piece out : List ℕ) (r : Result ℕ Refusal) (out' : List ℕ) : Type 0 where
+  pub answer : tells r ≡ answer_by (settings_test kiosk) piece out
   pub buffer : out' ≡ buffer_by (answer_by (settings_test kiosk) piece out) piece out
 
 -- `write`: the text; refusals 3, 9, 8
-abbrev pub Writes : Kiosk → List ℕ → Put → List ℕ → Type 0
+abbrev pub Writes : Kiosk → List ℕ → (Result ℕ Refusal) → List ℕ → Type 0
 Writes kiosk out r out' = Fits kiosk (text_of kiosk) out r out'
 
 -- `rows`: the words, into an array that always suffices; refusals 3, 9
-abbrev pub Fills : Kiosk → List ℕ → Put → List ℕ → Type 0
+abbrev pub Fills : Kiosk → List ℕ → (Result ℕ Refusal) → List ℕ → Type 0
 Fills kiosk out r out' = Fits kiosk (words_of (kept_in kiosk)) out r out'

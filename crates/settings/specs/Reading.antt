@@ -4,14 +4,13 @@
 use Rattle.std.specs.Prelude.{ℕ, zero, suc, ◌+◌, Bool, not, ◌&&◌, List, [], ◌∷◌, eqb, leb, ltb, length, get_or, set, take}
 use Rattle.base.specs.Bits.{cut, bit}
 use Rattle.base.specs.Pick.{pick}
-use Rattle.base.specs.Refusals.{Told, done, refused, Outcome, hands_back, verdict_tells}
+use Rattle.base.specs.Refusals.{Told, done, refused, Outcome, hands_back}
 use Rattle.word.specs.declared.Display.{Display}
 use Rattle.word.specs.declared.System.{System}
 use Rattle.chain.specs.Chain.{chip_count}
 use Rattle.lines.specs.Lines.{Line, ended, lines_of, bytes_in}
 use Rattle.settings.specs.declared.Kept.{Kept}
 use Rattle.settings.specs.declared.Kiosk.{Kiosk}
-use Rattle.settings.specs.declared.KioskRead.{KioskRead}
 use Rattle.settings.specs.Settings.{newest, version_for, no_kepts, no_kiosk}
 
 -- ---- the version
@@ -86,7 +85,3 @@ unfoldable pub read_of : List ℕ → Outcome Kiosk (Unit {0})
 read_of text = pick (ltb newest (version_in text)) (hands_back no_kiosk 14 (version_in text)) (lines_read (lines_of text))
 
 -- ---- the entry
-
--- what `read` hands back
-abbrev pub handed_kiosk : KioskRead → Outcome Kiosk (Unit {0})
-handed_kiosk r = record { state = r.kiosk; told = verdict_tells r.answer }

@@ -14,8 +14,7 @@ pub(crate) fn version_of(text: &[u8]) -> u8
     if text.len() < 4 {
         return 0;
     }
-    let frame = lines::frame_of(&text[..4]);
-    let bytes = frame.bytes;
+    let bytes = lines::frame_of(&text[..4]).bytes;
     if bytes[0] != 0x20 {
         return 0;
     }
@@ -30,52 +29,32 @@ pub(crate) fn version_for(n: usize) -> u8
 }
 
 // Whether a line's bytes are 20, the version, N.
+#[tactic(auto, unfolding(crate::specs::Reading::is_first))]
 pub(crate) fn is_first(bytes: &[u8]) -> bool
     ensures { result ≡ R.is_first bytes.now }
 {
-    if bytes.len() != 3 {
-        return false;
-    }
-    if bytes[0] != 0x20 {
-        return false;
-    }
-    let n = bytes[2] as usize;
-    if !chain::checks::is_count(n) {
-        return false;
-    }
-    bytes[1] == version_for(n)
+    bytes.len() == 3
+        && bytes[0] == 0x20
+        && chain::checks::is_count(bytes[2] as usize)
+        && bytes[1] == version_for(bytes[2] as usize)
 }
 
 // Whether no bit outside its field is set.
 fn is_in_fields(system: u8, display: u8, custom: u8) -> bool
     ensures { result ≡ R.in_fields system display custom }
 {
-    if base::field(system as u16, 6, 2) != 0 {
-        return false;
-    }
-    if base::field(system as u16, 2, 1) == 1 {
-        return false;
-    }
-    if display > 0x0F {
-        return false;
-    }
-    custom <= 0x7F
+    base::field(system as u16, 6, 2) == 0 && !bit(system, 2) && display <= 0x0F && custom <= 0x7F
 }
 
 // Whether a line's bytes are 21, chip k, and four bytes of settings.
+#[tactic(auto, unfolding(crate::specs::Reading::is_chip))]
 pub(crate) fn is_chip(k: usize, bytes: &[u8]) -> bool
     ensures { result ≡ R.is_chip k bytes.now }
 {
-    if bytes.len() != 6 {
-        return false;
-    }
-    if bytes[0] != 0x21 {
-        return false;
-    }
-    if bytes[1] as usize != k {
-        return false;
-    }
-    is_in_fields(bytes[2], bytes[3], bytes[5])
+    bytes.len() == 6
+        && bytes[0] == 0x21
+        && bytes[1] as usize == k
+        && is_in_fields(bytes[2], bytes[3], bytes[5])
 }
 
 // The bit at a place of a byte.

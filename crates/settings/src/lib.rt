@@ -9,12 +9,13 @@ mod puts;
 mod walk;
 
 ghost use Rattle.std.specs.Prelude.{◌≡◌};
+ghost use Rattle.base.specs.Refusals.{handed};
 ghost use Rattle.base.specs.Lent.{Counts};
 ghost use Rattle.settings.specs.Printing as P;
 ghost use Rattle.settings.specs.Putting as W;
 ghost use Rattle.settings.specs.Reading as R;
 
-use base::{Refusal, Verdict};
+use base::{Handed, Refusal};
 use capture::Replayed;
 use word::{Display, System};
 
@@ -43,20 +44,6 @@ pub enum Part {
     Custom,
 }
 
-// Settings handed back, zeros where they are refused, and whether the text was taken or what refused it.
-#[derive(Clone, Copy)]
-pub struct KioskRead {
-    pub kiosk: Kiosk,
-    pub answer: Verdict,
-}
-
-// How many bytes or words stand at a buffer's front, or why none do.
-#[derive(Clone, Copy)]
-pub enum Put {
-    Count(usize),
-    Refused(Refusal),
-}
-
 // The newest version of a text.
 pub const NEWEST: u8 = 0x01;
 
@@ -70,8 +57,8 @@ pub const WORDS: usize = 4 * chain::MOST;
 pub const SETUP_ROOM: usize = 7 + 3 * 67 * chain::MOST + 19;
 
 // Reads a settings text: refusals 14, 15.
-pub fn read(text: &[u8]) -> KioskRead
-    ensures { R.handed_kiosk result ≡ R.read_of text.now }
+pub fn read(text: &[u8]) -> Handed<Kiosk, ()>
+    ensures { handed result ≡ R.read_of text.now }
 {
     let version = frames::version_of(text);
     if version > NEWEST {
@@ -81,30 +68,22 @@ pub fn read(text: &[u8]) -> KioskRead
 }
 
 // Writes settings as text: refusals 3, 9, 8.
-pub fn write(kiosk: Kiosk, out: &mut [u8]) -> Put
+pub fn write(kiosk: Kiosk, out: &mut [u8]) -> Result<usize, Refusal>
     ensures { W.Writes kiosk out.old result out.new }
 {
-    let test = puts::tested(kiosk);
-    match test {
-        Verdict::Refused(e) => Put::Refused(e),
-        Verdict::Done => {
-            if out.len() < 7 + 13 * kiosk.n {
-                return Put::Refused(Refusal::Room);
-            }
-            Put::Count(puts::text(kiosk, out))
-        }
+    puts::tested(kiosk)?;
+    if out.len() < 7 + 13 * kiosk.n {
+        return Err(Refusal::Room);
     }
+    Ok(puts::text(kiosk, out))
 }
 
 // Turns settings into the words of four rows, system, display, blink, custom, for the writer: refusals 3, 9.
-pub fn rows(kiosk: Kiosk, words: &mut [u16; WORDS]) -> Put
+pub fn rows(kiosk: Kiosk, words: &mut [u16; WORDS]) -> Result<usize, Refusal>
     ensures { W.Fills kiosk words.old result words.new }
 {
-    let test = puts::tested(kiosk);
-    match test {
-        Verdict::Refused(e) => Put::Refused(e),
-        Verdict::Done => Put::Count(puts::words(kiosk, words)),
-    }
+    puts::tested(kiosk)?;
+    Ok(puts::words(kiosk, words))
 }
 
 // Reads a settings text and writes it again, or its refusal's line.

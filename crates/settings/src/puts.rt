@@ -1,6 +1,6 @@
 // Settings put into a lent buffer, once they are tested: as text, and as the words of rows.
 ghost use Rattle.std.specs.Prelude.{◌≡◌, true, ◌+◌, ◌*◌, ◌≤◌, length, take};
-ghost use Rattle.base.specs.Refusals.{done, verdict_tells};
+ghost use Rattle.base.specs.Refusals.{done, tells};
 ghost use Rattle.chain.specs.Chain.{most};
 ghost use Rattle.lines.specs.Answers.{Puts};
 ghost use Rattle.lines.specs.Lines.{line_for};
@@ -9,18 +9,16 @@ ghost use Rattle.settings.specs.Putting as W;
 ghost use Rattle.settings.specs.Settings as S;
 
 use crate::{Kept, Kiosk, Part, frames};
-use base::{Refusal, Verdict};
-use word::{Command, Display, Encoded, System};
+use base::Refusal;
+use word::{Command, Display, System};
 
 // The command that sets a part of a chip's settings.
 fn command_for(part: Part, c: Kept) -> Command
     ensures { result ≡ S.command_for part c }
 {
-    let system = c.system;
-    let display = c.display;
     match part {
-        Part::System => Command::SystemParameters(system),
-        Part::Display => Command::DisplayParameters(display),
+        Part::System => Command::SystemParameters(c.system),
+        Part::Display => Command::DisplayParameters(c.display),
         Part::Blink => Command::BlinkByte(c.blink),
         Part::Custom => Command::CustomCharacter(c.custom),
     }
@@ -30,16 +28,10 @@ fn command_for(part: Part, c: Kept) -> Command
 fn is_legal(c: Kept) -> bool
     ensures { result ≡ S.legal_kept c }
 {
-    if !word::is_legal(command_for(Part::System, c)) {
-        return false;
-    }
-    if !word::is_legal(command_for(Part::Display, c)) {
-        return false;
-    }
-    if !word::is_legal(command_for(Part::Blink, c)) {
-        return false;
-    }
-    word::is_legal(command_for(Part::Custom, c))
+    word::is_legal(command_for(Part::System, c))
+        && word::is_legal(command_for(Part::Display, c))
+        && word::is_legal(command_for(Part::Blink, c))
+        && word::is_legal(command_for(Part::Custom, c))
 }
 
 // Whether none of the first n chips' is.
@@ -47,30 +39,21 @@ fn all_legal(n: usize, chips: [Kept; chain::MOST]) -> bool
     requires { n ≤ most }
     ensures { result ≡ S.all_legal (take n chips) }
 {
-    let mut k = 0;
-    while k < n {
-        let c = chips[k];
-        if !is_legal(c) {
-            return false;
-        }
-        k += 1;
-    }
-    true
+    chips[..n].iter().all(|c| is_legal(*c))
 }
 
 // The tests of settings: refusals 3, 9.
-pub(crate) fn tested(kiosk: Kiosk) -> Verdict
-    ensures { verdict_tells result ≡ W.settings_test kiosk }
+pub(crate) fn tested(kiosk: Kiosk) -> Result<(), Refusal>
+    ensures { tells result ≡ W.settings_test kiosk }
 {
-    let n = kiosk.n;
-    let chips = kiosk.chips;
+    let Kiosk { n, chips } = kiosk;
     if !chain::checks::is_count(n) {
-        return Verdict::Refused(Refusal::ChipCount);
+        return Err(Refusal::ChipCount);
     }
     if !all_legal(n, chips) {
-        return Verdict::Refused(Refusal::Field(0));
+        return Err(Refusal::Field(0));
     }
-    Verdict::Done
+    Ok(())
 }
 
 // The word of a command that is in range.
@@ -78,10 +61,7 @@ fn word_of(command: Command) -> u16
     requires { legal command ≡ true }
     ensures { result ≡ word_of command }
 {
-    match word::encode(command) {
-        Encoded::Word(w) => w,
-        Encoded::Refused(_) => 0,
-    }
+    word::encode(command).unwrap_or(0)
 }
 
 // The system byte: its word's low eight bits.
@@ -105,13 +85,11 @@ fn chip_line(k: u8, c: Kept, out: &mut [u8], at: usize) -> usize
     requires at_in_bounds { at + 13 ≤ length out.old }
     ensures { Puts (line_for (S.chip_frame k c)) at out.old result out.new }
 {
-    let system = c.system;
-    let display = c.display;
     let bytes = [
         0x21,
         k,
-        system_byte(system),
-        display_byte(display),
+        system_byte(c.system),
+        display_byte(c.display),
         c.blink,
         c.custom,
     ];
@@ -126,11 +104,8 @@ fn chip_lines(n: usize, chips: [Kept; chain::MOST], out: &mut [u8], at: usize) -
     ensures { Puts (S.chip_lines 0 (take n chips)) at out.old result out.new }
 {
     let mut end = at;
-    let mut k = 0;
-    while k < n {
-        let c = chips[k];
-        end = chip_line(k as u8, c, out, end);
-        k += 1;
+    for (k, c) in chips[..n].iter().enumerate() {
+        end = chip_line(k as u8, *c, out, end);
     }
     end
 }
@@ -141,10 +116,8 @@ pub(crate) fn text(kiosk: Kiosk, out: &mut [u8]) -> usize
     requires n_in_bounds { 7 + 13 * kiosk.n ≤ length out.old }
     ensures { Puts (S.text_of kiosk) 0 out.old result out.new }
 {
-    let n = kiosk.n;
-    let chips = kiosk.chips;
-    let bytes = [0x20, frames::version_for(n), n as u8];
-    let at = lines::put_line(&bytes, out, 0);
+    let Kiosk { n, chips } = kiosk;
+    let at = lines::put_line(&[0x20, frames::version_for(n), n as u8], out, 0);
     chip_lines(n, chips, out, at)
 }
 
@@ -155,11 +128,8 @@ fn row(part: Part, n: usize, chips: [Kept; chain::MOST], words: &mut [u16], at: 
     requires n_in_bounds { at + n ≤ length words.old }
     ensures { Puts (S.row_for part (take n chips)) at words.old result words.new }
 {
-    let mut k = 0;
-    while k < n {
-        let c = chips[k];
-        words[at + k] = word_of(command_for(part, c));
-        k += 1;
+    for (k, c) in chips[..n].iter().enumerate() {
+        words[at + k] = word_of(command_for(part, *c));
     }
     at + n
 }
@@ -170,8 +140,7 @@ pub(crate) fn words(kiosk: Kiosk, words: &mut [u16]) -> usize
     requires most_in_bounds { 4 * most ≤ length words.old }
     ensures { Puts (S.words_of (S.kept_in kiosk)) 0 words.old result words.new }
 {
-    let n = kiosk.n;
-    let chips = kiosk.chips;
+    let Kiosk { n, chips } = kiosk;
     let system = row(Part::System, n, chips, words, 0);
     let display = row(Part::Display, n, chips, words, system);
     let blink = row(Part::Blink, n, chips, words, display);

@@ -1,7 +1,7 @@
 -- Blocks of a stream, by its kind, and its end.
 --     writes_as, none_written, after_writes     a block that is another, one that writes nothing, and one that was stepped through
 --     begin_none, begin_raw, begin_text         the first byte tells the form
---     end_none, end_some                        the end, where nothing is held and where something is
+--     end_some                                  the end, where something is held
 --     taken_same, taken_few                     how many bytes are taken
 --     fed_room, end_room                        what a block and the end write has room
 --     feeds_so, finishes_so                     the entries' promises
@@ -67,9 +67,6 @@ begin_text what s (b ∷ bytes) h ne = pick_no _ _ (ne_eqb b 0x00 ne)
 -- ---- the end
 
 module _ (count : ℕ) (refusal : List ℕ) where
-  pub end_none : count ≡ 0 → (out : List ℕ) → Puts (pick (eqb count 0) [] refusal) 0 out 0 out
-  end_none e out = puts_as (pick_yes _ _ (eq-eqb count 0 e)) (none_put 0 out)
-
   pub end_some : (count ≡ 0 → ⊥) → {out : List ℕ} {r : ℕ} {out' : List ℕ} → Puts refusal 0 out r out' → Puts (pick (eqb count 0) [] refusal) 0 out r out'
   end_some ne = puts_as (pick_no _ _ (ne_eqb count 0 ne))
 

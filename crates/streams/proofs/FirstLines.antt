@@ -1,7 +1,7 @@
 -- A text from its first line on: its bytes one after another, and then its end, write what the definition of a text says.
 --     text_first              from any place inside the first line on
 -- Assumes nothing.
-use Rattle.std.proofs.Common.{◌≡◌, ℕ, suc, ◌+◌, ◌^◌, ◌<◌, false, List, [], ◌∷◌, ◌++◌, length, sym, refl, ap, ◌∙◌, append_assoc, append-nil, arith, length-append, ne_eqb}
+use Rattle.std.proofs.Common.{◌≡◌, ℕ, suc, ◌+◌, ◌^◌, ◌<◌, false, List, [], ◌∷◌, ◌++◌, length, Option, Some, None, sym, refl, ap, ◌∙◌, append_assoc, append-nil, arith, length-append, ne_eqb}
 use Rattle.base.proofs.Picks.{pick_no}
 use Rattle.base.proofs.Tests.{is_true, by_equality}
 use Rattle.chain.specs.declared.Chain.{Chain}
@@ -11,7 +11,7 @@ use Rattle.lines.specs.Lines.{newline, ended, cut_off, lines_of, bytes_in}
 use Rattle.lines.proofs.Texts.{NoEnd, no_end, no_end_more, lines_held, lines_cut}
 use Rattle.capture.specs.declared.Report.{Report}
 use Rattle.capture.specs.Frames.{first_of}
-use Rattle.capture.specs.Parts.{chips_in}
+use Rattle.capture.specs.Parts.{chips_told}
 use Rattle.capture.specs.Reports.{refusal_line}
 use Rattle.capture.proofs.Firsts.{first_none, first_some}
 use Rattle.reads.specs.declared.Reader.{Reader}
@@ -41,21 +41,24 @@ module _ (what : Report) (n : ℕ) (ch : Chain) (rd : Reader) (none : chip_count
   first_taken_lem : (held : Held) (h text : List ℕ)
       → written Text (then (first_taken (stands n ch rd 1 held) (first_of (bytes_in (ended h)))) (onward text)) ≡ first_limited what m (first_of (bytes_in (ended h))) (lines_of text)
   unfolding first_limited
-  first_taken_lem held h text =
-      let s = stands n ch rd 1 held in
-      let t = first_of (bytes_in (ended h)) in
-      by_equality (chips_in t) 0
-      (λ z.
-      let r = first_none (ended h) z in
-      ap (λ x. written Text (then (first_taken s x) (onward text))) r.1
-      ∙ written_stopped Text s (refusal_line 10 1) (onward text)
-      ∙ ap (λ x. first_limited what m x (lines_of text)) (sym r.1))
-      (λ ne.
-      let r = first_some (ended h) ne in
-      let next : m + 2 ≡ 2 ^ 32 = omega arith in
-      ap (λ x. written Text (then (first_taken s x) (onward text))) r.0
-      ∙ text_from what (chips_in t) (is_true (chip_count (chips_in t)) r.1) text [] none_held 2 m start_chain start_reader holds_none no_end next (λ _. refl)
-      ∙ ap (λ x. first_limited what m x (lines_of text)) (sym r.0))
+  first_taken_lem held h text = go (chips_told (first_of (bytes_in (ended h)))) refl
+    where
+      s : State
+      s = stands n ch rd 1 held
+
+      go : (o : Option ℕ) → o ≡ chips_told (first_of (bytes_in (ended h)))
+          → written Text (then (first_taken s (first_of (bytes_in (ended h)))) (onward text)) ≡ first_limited what m (first_of (bytes_in (ended h))) (lines_of text)
+      go None z =
+          let r = first_none (ended h) z in
+          ap (λ x. written Text (then (first_taken s x) (onward text))) r.1
+          ∙ written_stopped Text s (refusal_line 10 1) (onward text)
+          ∙ ap (λ x. first_limited what m x (lines_of text)) (sym r.1)
+      go (Some k) z =
+          let r = first_some (ended h) z in
+          let next : m + 2 ≡ 2 ^ 32 = omega arith in
+          ap (λ x. written Text (then (first_taken s x) (onward text))) r.0
+          ∙ text_from what k (is_true (chip_count k) r.1) text [] none_held 2 m start_chain start_reader holds_none no_end next (λ _. refl)
+          ∙ ap (λ x. first_limited what m x (lines_of text)) (sym r.0)
 
   pub text_first : (text h : List ℕ) (held : Held) → HoldsLine held h → NoEnd h → 0 < length h + length text
       → written Text (steps (text_byte what) (stands n ch rd 1 held) text) ≡ long_out what (lines_of (h ++ text))

@@ -1,9 +1,9 @@
 -- What is held grows byte by byte, and becomes a line's frame.
 --     grown_full, grown_more, grown_over     the loop over the bytes: there is no room for the next, there is, there is none
 --     none_read                       no characters have no bytes
---     frame_long, frame_short         the frame of a line that is too long, and of one that isn't
+--     frame_long                      the frame of a line that is too long
 -- Assumes nothing.
-use Rattle.std.proofs.Common.{◌≡◌, ℕ, ◌+◌, ◌<◌, ◌≤◌, List, [], ◌∷◌, length, get_or, take, drop, set, sym, refl, ap, ◌∙◌, drop_of_length-le, le-ltb, lt-ltb, le-leb}
+use Rattle.std.proofs.Common.{◌≡◌, ℕ, ◌+◌, ◌<◌, ◌≤◌, List, [], ◌∷◌, length, get_or, take, drop, set, sym, refl, ap, ◌∙◌, drop_of_length-le, le-ltb, lt-ltb}
 use borrow.Author.Tests.{lt-leb}
 use Rattle.base.proofs.Picks.{pick_yes, pick_no}
 use Rattle.base.proofs.Lists.{rest_is}
@@ -47,6 +47,3 @@ none_read = refl
 
 pub frame_long : (h : Held) → 66 < h.count → frame_for (held_in (take 0 h.bytes)) ≡ frame_for (line_held h)
 frame_long h l = ap frame_for (none_read ∙ sym (pick_no _ _ (lt-leb h.count 66 l)))
-
-pub frame_short : (h : Held) → h.count ≤ 66 → frame_for (held_in (take h.count h.bytes)) ≡ frame_for (line_held h)
-frame_short h l = ap frame_for (sym (pick_yes _ _ (le-leb h.count 66 l)))

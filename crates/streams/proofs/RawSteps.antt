@@ -1,7 +1,7 @@
 -- A raw stream's block: samples one after another, and one byte of an item, case by case.
 --     raw_run                                   a run of samples steps so
 --     item_sample, item_scan, item_other, item_more, item_whole     one byte of an item
---     starts_uncounted, starts_held, starts_sample, starts_so     whether a run of samples starts
+--     starts_sample, starts_so                  whether a run of samples starts
 --     by_items, by_head                         a byte after the first three, and one of them
 -- Assumes nothing.
 use Rattle.std.proofs.Common.{◌≡◌, ℕ, zero, suc, ◌+◌, ◌%◌, ◌^◌, ◌<◌, ◌≤◌, true, false, ◌&&◌, T, eqb, List, [], ◌∷◌, ◌++◌, length, take, drop, sym, refl, ap, ◌∙◌, subst, ap₂, append_assoc, arith, le-ltb, lt-ltb, eq-eqb, ne_eqb, eqb-true}
@@ -33,12 +33,6 @@ offset_low p = omega arith
 -- ---- whether a run of samples starts
 
 module _ (s : State) (b : ℕ) where
-  pub starts_uncounted : chip_count s.n ≡ false → false ≡ starts_run s b
-  starts_uncounted e = sym (ap (λ t. t && eqb s.held.count 0 && is_sample b) e)
-
-  pub starts_held : chip_count s.n ≡ true → (s.held.count ≡ 0 → ⊥) → false ≡ starts_run s b
-  starts_held e some = sym (ap₂ (λ t u. t && u && is_sample b) e (ne_eqb s.held.count 0 some))
-
   pub starts_sample : chip_count s.n ≡ true → s.held.count ≡ 0 → is_sample b ≡ starts_run s b
   starts_sample e none = sym (ap₂ (λ t u. t && u && is_sample b) e (eq-eqb s.held.count 0 none))
 

@@ -1,14 +1,14 @@
--- Samples without DOUT in a raw stream: how many there are from a place on, and that they were played.
---     plain_more, plain_here, plain_over     from a place on: one and those after it, none here, the block's end
+-- Samples without DOUT in a raw stream: how many stand first, and that they were played.
+--     plain_prefix                           they are the front that passes the test
 --     plain_length_le, plain_run, plain_low  how many there can be; they are samples, below 8
 --     plain_fits, plain_few, plain_all, plain_played     a stretch of them
 --     rest_run, run_rest, looked_run         the samples that stand first, played with the looks before them
 -- Assumes nothing.
-use Rattle.std.proofs.Common.{◌≡◌, ℕ, suc, ◌+◌, ◌-◌, ◌*◌, ◌%◌, ◌^◌, ◌<◌, ◌≤◌, true, false, ◌&&◌, ltb, List, [], ◌∷◌, length, get_or, take, drop, sym, ap, ◌∙◌, subst, ap₂, arith, length-drop, drop_of_length-le, length-take, take_all, ltb-true, le-ltb, lt-ltb, le-leb}
+use Rattle.std.proofs.Common.{◌≡◌, ℕ, suc, ◌+◌, ◌-◌, ◌*◌, ◌%◌, ◌^◌, ◌≤◌, true, false, ◌&&◌, ltb, List, [], ◌∷◌, length, take, drop, sym, refl, ap, subst, ap₂, arith, length-drop, length-take, take_all, ltb-true, le-leb, ◌∙◌}
+use Rattle.std.specs.List.{prefix_len}
 use native.Mathlib.Nat.{min-le_left}
 use Rattle.base.specs.Below.{AllBelow}
-use Rattle.base.proofs.Lists.{rest_is}
-use Rattle.base.proofs.Picks.{pick_yes, pick_no, pick_cases}
+use Rattle.base.proofs.Picks.{pick_yes, pick_cases}
 use Rattle.chain.specs.Chain.{chip_count}
 use Rattle.capture.specs.declared.Report.{Report}
 use Rattle.reads.specs.declared.Ran.{Ran}
@@ -22,20 +22,14 @@ use Rattle.streams.specs.Held.{none_held}
 use Rattle.streams.specs.Parts.{Steps, ran, plain_length, Runs}
 use Rattle.streams.proofs.Stepping.{looks_made}
 
--- ---- from a place on
+-- ---- how many there are
 
-module _ (bytes : List ℕ) (i : ℕ) where
-  pub plain_more : i < length bytes → get_or bytes i 0 < 0x08 → plain_length (drop i bytes) ≡ suc (plain_length (drop (i + 1) bytes))
-  unfolding plain_length
-  plain_more h low = ap plain_length (rest_is bytes i 0 h) ∙ pick_yes _ _ (lt-ltb (get_or bytes i 0) 0x08 low)
-
-  pub plain_here : i < length bytes → 0x08 ≤ get_or bytes i 0 → plain_length (drop i bytes) ≡ 0
-  unfolding plain_length
-  plain_here h high = ap plain_length (rest_is bytes i 0 h) ∙ pick_no _ _ (le-ltb (get_or bytes i 0) 0x08 high)
-
-  pub plain_over : length bytes ≤ i → plain_length (drop i bytes) ≡ 0
-  unfolding plain_length
-  plain_over h = ap plain_length (drop_of_length-le bytes h)
+pub plain_prefix : (bytes : List ℕ) → prefix_len (λ b. ltb b 0x08) bytes ≡ plain_length bytes
+unfolding plain_length
+plain_prefix [] = refl
+plain_prefix (b ∷ bytes) =
+    let more = plain_prefix bytes in
+    pick_cases (λ m. prefix_len (λ b. ltb b 0x08) (b ∷ bytes) ≡ m) (ltb b 0x08) (λ e. rw e (omega arith)) (λ e. rw e refl)
 
 pub plain_length_le : (bytes : List ℕ) → plain_length bytes ≤ length bytes
 unfolding plain_length
@@ -64,26 +58,20 @@ plain_low (b ∷ bytes) =
 
 -- ---- a stretch of them, played as they stand
 
-module _ (bytes : List ℕ) (from end : ℕ) (here : end ≡ from + plain_length (drop from bytes)) where
-  abbrev rest : List ℕ
-  rest = drop from bytes
+module _ (bytes : List ℕ) {count : ℕ} (here : count ≡ plain_length bytes) where
+  pub plain_fits : count ≤ length bytes
+  plain_fits = omega (arith, plain_length_le bytes)
 
-  counts : end - from ≡ plain_length rest
-  counts = omega arith
+  pub plain_few : length (take count bytes) ≤ run_length bytes
+  plain_few = omega (arith, plain_run bytes, length-take count bytes, min-le_left count (length bytes))
 
-  pub plain_fits : from ≤ length bytes → end ≤ length bytes
-  plain_fits h = omega (arith, plain_length_le rest, length-drop from bytes)
+  pub plain_all : AllBelow 8 (take count bytes)
+  plain_all = subst (λ m. AllBelow 8 (take m bytes)) (sym here) (plain_low bytes)
 
-  pub plain_few : length (take (end - from) rest) ≤ run_length rest
-  plain_few = omega (arith, counts, plain_run rest, length-take (end - from) rest, min-le_left (end - from) (length rest))
-
-  pub plain_all : AllBelow 8 (take (end - from) rest)
-  plain_all = subst (λ m. AllBelow 8 (take m rest)) (sym counts) (plain_low rest)
-
-  pub plain_played : {what : Report} {s : State} {at : ℕ} {out out' : List ℕ} {step : Step} → (end ≡ from → ⊥)
-      → Steps (ran what s (take (end - from) rest)) at out step out'
-      → Runs what s rest at out (record { step = step; count = end - from }) out'
-  plain_played some made = record { some = omega arith; within = omega (arith, counts, plain_run rest); step = made }
+  pub plain_played : {what : Report} {s : State} {at : ℕ} {out out' : List ℕ} {step : Step} → 1 ≤ count
+      → Steps (ran what s (take count bytes)) at out step out'
+      → Runs what s bytes at out (record { step = step; count = count }) out'
+  plain_played some made = record { some = some; within = omega (arith, plain_run bytes); step = made }
 
 -- ---- the samples that stand first, with the looks before them
 

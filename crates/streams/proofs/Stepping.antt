@@ -1,6 +1,6 @@
 -- Steps of a stream, as the code makes them.
 --     step_as, nothing_written                        a step that is another, and one that writes nothing
---     head_other, head_next, head_none, head_count    one of the first three bytes of a raw stream, case by case
+--     head_other, head_next, head_count               one of the first three bytes of a raw stream, case by case
 --     samples_made, looks_made, scan_made             samples of a raw stream, without and with looks, and a scan that is whole
 -- Assumes nothing.
 use Rattle.std.proofs.Common.{◌≡◌, ℕ, ◌+◌, ◌*◌, ◌%◌, ◌^◌, ◌<◌, ◌≤◌, true, false, T, List, [], length, sym, refl, ap, ◌∙◌, subst, arith, le-ltb, lt-ltb, eq-eqb, ne_eqb}
@@ -44,9 +44,6 @@ module _ (s : State) (b : ℕ) where
 
   pub head_next : s.held.count < 2 → b ≡ s.held.count → head_byte s b ≡ raw_held s b
   head_next few e = pick_yes _ _ (lt-ltb s.held.count 2 few) ∙ pick_yes _ _ (eq-eqb b s.held.count e)
-
-  pub head_none : 2 ≤ s.held.count → chip_count b ≡ false → head_byte s b ≡ raw_refused s
-  head_none many e = pick_no _ _ (le-ltb s.held.count 2 many) ∙ pick_no _ _ e
 
   pub head_count : 2 ≤ s.held.count → chip_count b ≡ true → head_byte s b ≡ going (begins b start_chain start_reader (next_offset s.place)) []
   head_count many e = pick_no _ _ (le-ltb s.held.count 2 many) ∙ pick_yes _ _ e

@@ -37,15 +37,12 @@ pub(crate) fn grown(held: Held, more: &[u8]) -> Held
     ensures { result ≡ grown_by held more.now }
 {
     let mut next = held;
-    let mut i = 0;
-    while i < more.len() {
-        let count = next.count;
-        if count >= 66 {
+    for b in more {
+        if next.count >= 66 {
             return too_long();
         }
-        next.bytes[count] = more[i];
-        next.count = count + 1;
-        i += 1;
+        next.bytes[next.count] = *b;
+        next.count += 1;
     }
     next
 }
@@ -54,10 +51,8 @@ pub(crate) fn grown(held: Held, more: &[u8]) -> Held
 pub(crate) fn frame(held: Held) -> Frame
     ensures { result ≡ frame_for (line_held held) }
 {
-    let bytes = held.bytes;
-    let count = held.count;
-    if count > 66 {
-        return lines::frame_of(&bytes[..0]);
+    if held.count > 66 {
+        return lines::frame_of(&[]);
     }
-    lines::frame_of(&bytes[..count])
+    lines::frame_of(&held.bytes[..held.count])
 }

@@ -59,6 +59,7 @@ pub struct Fed {
 }
 
 // A step of a stream: the state after it, whether it was refused, and the place past what it wrote.
+// A refused step has its state and its place too (specs/Parts `Steps`), so the flag stands beside them.
 #[derive(Clone, Copy)]
 pub(crate) struct Step {
     pub(crate) state: State,
@@ -83,13 +84,11 @@ pub const ROOM: usize = reads::SAMPLE_ROOM * (BLOCK + 64);
 pub fn start() -> Stream
     ensures { result ≡ S.start_stream }
 {
-    let begun = chain::start(1);
-    let chain = begun.chain;
     Stream {
         kind: Kind::Unknown,
         state: State {
             n: 0,
-            chain,
+            chain: chain::start(1).value,
             place: 0,
             held: held::none(),
             reader: reads::start(),
@@ -101,17 +100,7 @@ pub fn start() -> Stream
 fn placed_at(place: u64, state: State) -> State
     ensures { result ≡ S.placed_at place state }
 {
-    let n = state.n;
-    let chain = state.chain;
-    let held = state.held;
-    let reader = state.reader;
-    State {
-        n,
-        chain,
-        place,
-        held,
-        reader,
-    }
+    State { place, ..state }
 }
 
 // The stream of a kind after steps.
@@ -119,18 +108,11 @@ fn after(kind: Kind, step: Step) -> Output
     ensures stream_value { result.stream ≡ P.stream_after kind step }
     ensures bytes_value { result.bytes ≡ step.at }
 {
-    let state = step.state;
-    if step.over {
-        return Output {
-            stream: Stream {
-                kind: Kind::Over,
-                state,
-            },
-            bytes: step.at,
-        };
-    }
     Output {
-        stream: Stream { kind, state },
+        stream: Stream {
+            kind: if step.over { Kind::Over } else { kind },
+            state: step.state,
+        },
         bytes: step.at,
     }
 }
@@ -141,7 +123,7 @@ fn begin(what: Report, state: State, bytes: &[u8], out: &mut [u8]) -> Output
     requires in_bounds { P.most_written ≤ length out.old }
     ensures { P.Writes (S.fed_by what Kind.Unknown state bytes.now) out.old result out.new }
 {
-    if bytes.len() < 1 {
+    if bytes.is_empty() {
         return Output {
             stream: Stream {
                 kind: Kind::Unknown,
@@ -162,30 +144,12 @@ fn block(what: Report, stream: Stream, bytes: &[u8], out: &mut [u8]) -> Output
     requires in_bounds { P.most_written ≤ length out.old }
     ensures { P.Writes (S.fed what stream bytes.now) out.old result out.new }
 {
-    let kind = stream.kind;
-    let state = stream.state;
-    match kind {
-        Kind::Unknown => begin(what, state, bytes, out),
-        Kind::Text => after(Kind::Text, text::fed(what, state, bytes, out)),
-        Kind::Raw => after(Kind::Raw, raw::fed(what, state, bytes, out)),
-        Kind::Over => Output {
-            stream: Stream {
-                kind: Kind::Over,
-                state,
-            },
-            bytes: 0,
-        },
+    match stream.kind {
+        Kind::Unknown => begin(what, stream.state, bytes, out),
+        Kind::Text => after(Kind::Text, text::fed(what, stream.state, bytes, out)),
+        Kind::Raw => after(Kind::Raw, raw::fed(what, stream.state, bytes, out)),
+        Kind::Over => Output { stream, bytes: 0 },
     }
-}
-
-// How many bytes of a block are taken.
-fn taken(count: usize) -> usize
-    ensures { result ≡ min count S.most_taken }
-{
-    if count < BLOCK {
-        return count;
-    }
-    BLOCK
 }
 
 // Takes a block, or its first 4,096 bytes: what they write stands at the front of the array, which always suffices.
@@ -193,11 +157,10 @@ pub fn feed(what: Report, stream: Stream, bytes: &[u8], out: &mut [u8; ROOM]) ->
     ensures feeds { S.Feeds what stream bytes.now out.old result out.new }
     ensures counts { Counts result.bytes out.new }
 {
-    let passed = taken(bytes.len());
+    let passed = bytes.len().min(BLOCK);
     let written = block(what, stream, &bytes[..passed], out);
-    let stream = written.stream;
     Fed {
-        stream,
+        stream: written.stream,
         passed,
         bytes: written.bytes,
     }
@@ -208,8 +171,7 @@ fn text_end(state: State, out: &mut [u8]) -> usize
     requires { P.most_written ≤ length out.old }
     ensures { Puts (S.end_by Kind.Text state) 0 out.old result out.new }
 {
-    let held = state.held;
-    if held.count == 0 {
+    if state.held.count == 0 {
         return 0;
     }
     capture::put::refusal(Refusal::Line(state.place), out, 0)
@@ -220,8 +182,7 @@ fn raw_end(state: State, out: &mut [u8]) -> usize
     requires { P.most_written ≤ length out.old }
     ensures { Puts (S.end_by Kind.Raw state) 0 out.old result out.new }
 {
-    let held = state.held;
-    if held.count == 0 {
+    if state.held.count == 0 {
         return 0;
     }
     raw::refusal(state.place, out, 0)
@@ -233,12 +194,10 @@ pub fn finish(stream: Stream, out: &mut [u8; ROOM]) -> usize
     ensures finishes { S.Finishes stream out.old result out.new }
     ensures counts { Counts result out.new }
 {
-    let kind = stream.kind;
-    let state = stream.state;
-    match kind {
+    match stream.kind {
         Kind::Unknown => capture::put::refusal(Refusal::Line(1), out, 0),
-        Kind::Text => text_end(state, out),
-        Kind::Raw => raw_end(state, out),
+        Kind::Text => text_end(stream.state, out),
+        Kind::Raw => raw_end(stream.state, out),
         Kind::Over => 0,
     }
 }

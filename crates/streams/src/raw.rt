@@ -14,10 +14,8 @@ use capture::Report;
 pub(crate) fn refusal(offset: u64, out: &mut [u8], at: usize) -> usize
     ensures { Puts (fitting (R.raw_refusal offset) at out.old) at out.old result out.new }
 {
-    let eight = lines::eight_bytes(offset);
-    let bytes = [
-        0x1F, 0x0A, eight[0], eight[1], eight[2], eight[3], eight[4], eight[5], eight[6], eight[7],
-    ];
+    let mut bytes = [0x1F, 0x0A, 0, 0, 0, 0, 0, 0, 0, 0];
+    bytes[2..].copy_from_slice(&lines::eight_bytes(offset));
     lines::put_line(&bytes, out, at)
 }
 
@@ -26,11 +24,10 @@ fn refused(state: State, out: &mut [u8], at: usize) -> Step
     requires { at + 21 ≤ length out.old }
     ensures { P.Steps (S.raw_refused state) at out.old result out.new }
 {
-    let offset = state.place;
     Step {
         state,
         over: true,
-        at: refusal(offset, out, at),
+        at: refusal(state.place, out, at),
     }
 }
 
@@ -38,16 +35,10 @@ fn refused(state: State, out: &mut [u8], at: usize) -> Step
 fn kept(state: State, b: u8) -> State
     ensures { result ≡ S.holding (next_offset state.place) b state }
 {
-    let held = state.held;
-    let chain = state.chain;
-    let reader = state.reader;
-    let bytes = [b];
     State {
-        n: state.n,
-        chain,
-        place: std::num::wrapping_add_u64(state.place, 1),
-        held: held::grown(held, &bytes),
-        reader,
+        place: state.place.wrapping_add(1),
+        held: held::grown(state.held, &[b]),
+        ..state
     }
 }
 
@@ -56,10 +47,9 @@ fn head_byte(state: State, b: u8, out: &mut [u8], at: usize) -> Step
     requires { at + 21 ≤ length out.old }
     ensures { P.Steps (S.head_byte state b) at out.old result out.new }
 {
-    let held = state.held;
     let n = b as usize;
-    if held.count < 2 {
-        if n != held.count {
+    if state.held.count < 2 {
+        if n != state.held.count {
             return refused(state, out, at);
         }
         return Step {
@@ -71,13 +61,11 @@ fn head_byte(state: State, b: u8, out: &mut [u8], at: usize) -> Step
     if !chain::checks::is_count(n) {
         return refused(state, out, at);
     }
-    let begun = chain::start(n);
-    let chain = begun.chain;
     Step {
         state: State {
             n,
-            chain,
-            place: std::num::wrapping_add_u64(state.place, 1),
+            chain: chain::start(n).value,
+            place: state.place.wrapping_add(1),
             held: held::none(),
             reader: reads::start(),
         },
@@ -91,23 +79,16 @@ fn scan(what: Report, state: State, b: u8, out: &mut [u8], at: usize) -> Step
     requires { at + 21 ≤ length out.old }
     ensures { P.Steps (S.raw_taken what state (S.scan_held state.held b)) at out.old result out.new }
 {
-    let n = state.n;
-    let chain = state.chain;
-    let held = state.held;
-    let bytes = held.bytes;
-    let eight = [
-        bytes[1], bytes[2], bytes[3], bytes[4], bytes[5], bytes[6], bytes[7], b,
-    ];
-    let reader = state.reader;
-    let took = capture::takes::scan(what, n, chain, bytes[0] % 128, eight, out, at);
-    let after = took.chain;
+    let k = state.held.bytes[0] % 128;
+    let mut eight = [b; 8];
+    eight[..7].copy_from_slice(&state.held.bytes[1..8]);
+    let took = capture::takes::scan(what, state.n, state.chain, k, eight, out, at);
     Step {
         state: State {
-            n,
-            chain: after,
-            place: std::num::wrapping_add_u64(state.place, 1),
+            chain: took.chain,
+            place: state.place.wrapping_add(1),
             held: held::none(),
-            reader,
+            ..state
         },
         over: false,
         at: took.at,
@@ -118,11 +99,7 @@ fn scan(what: Report, state: State, b: u8, out: &mut [u8], at: usize) -> Step
 fn is_scan(n: usize, b: u8) -> bool
     ensures { result ≡ R.is_scan n b }
 {
-    if b < 0x80 {
-        return false;
-    }
-    let k = (b - 0x80) as usize;
-    k < n
+    b >= 0x80 && ((b - 0x80) as usize) < n
 }
 
 // One byte of an item, other than a sample.
@@ -132,26 +109,18 @@ fn item_byte(what: Report, state: State, b: u8, out: &mut [u8], at: usize) -> St
     requires at_in_bounds { at + 21 ≤ length out.old }
     ensures { P.Steps (S.item_byte what state b) at out.old result out.new }
 {
-    let held = state.held;
-    let count = held.count;
-    if count == 0 {
-        if !is_scan(state.n, b) {
-            return refused(state, out, at);
-        }
-        return Step {
-            state: kept(state, b),
-            over: false,
-            at,
-        };
+    let count = state.held.count;
+    if count >= 8 {
+        return scan(what, state, b, out, at);
     }
-    if count < 8 {
-        return Step {
-            state: kept(state, b),
-            over: false,
-            at,
-        };
+    if count == 0 && !is_scan(state.n, b) {
+        return refused(state, out, at);
     }
-    scan(what, state, b, out, at)
+    Step {
+        state: kept(state, b),
+        over: false,
+        at,
+    }
 }
 
 // One byte, other than a sample.
@@ -175,14 +144,13 @@ pub(crate) fn fed(what: Report, state: State, bytes: &[u8], out: &mut [u8]) -> S
     let mut next = state;
     let mut at = 0;
     let mut i = 0;
+    // a turn is a byte or a run of samples, so no iterator counts it
     while i < bytes.len() {
         let b = bytes[i];
         if samples::starts_run(next, b) {
             let ran = samples::run(what, next, bytes, i, out, at);
-            let step = ran.step;
-            let after = step.state;
-            next = after;
-            at = step.at;
+            next = ran.step.state;
+            at = ran.step.at;
             i += ran.count;
             continue;
         }
@@ -190,8 +158,7 @@ pub(crate) fn fed(what: Report, state: State, bytes: &[u8], out: &mut [u8]) -> S
         if step.over {
             return step;
         }
-        let after = step.state;
-        next = after;
+        next = step.state;
         at = step.at;
         i += 1;
     }

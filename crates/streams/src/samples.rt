@@ -13,28 +13,14 @@ use capture::Report;
 pub(crate) fn starts_run(state: State, b: u8) -> bool
     ensures { result ≡ P.starts_run state b }
 {
-    if !chain::checks::is_count(state.n) {
-        return false;
-    }
-    let held = state.held;
-    if held.count != 0 {
-        return false;
-    }
-    reads::is_sample(b)
+    chain::checks::is_count(state.n) && state.held.count == 0 && reads::is_sample(b)
 }
 
-// The place of the next byte that is no sample without DOUT, from a place on, or the block's end.
-fn plain_end(bytes: &[u8], from: usize) -> usize
-    ensures { result ≡ from + P.plain_length (drop from bytes.now) }
+// How many samples without DOUT stand before the next byte that is none, or the end.
+fn plain_length(bytes: &[u8]) -> usize
+    ensures { result ≡ P.plain_length bytes.now }
 {
-    let mut i = from;
-    while i < bytes.len() {
-        if bytes[i] >= 0x08 {
-            return i;
-        }
-        i += 1;
-    }
-    i
+    bytes.iter().take_while(|b| **b < 0x08).count()
 }
 
 // Samples before one has a recorded DOUT, played at once.
@@ -45,18 +31,13 @@ fn played(what: Report, state: State, levels: &[u8], out: &mut [u8], at: usize) 
     requires levels_in_bounds { at + 84 * (length levels.now + 1) ≤ length out.old }
     ensures { P.Steps (P.ran what state levels.now) at out.old result out.new }
 {
-    let n = state.n;
-    let chain = state.chain;
-    let reader = state.reader;
-    let took = capture::takes::samples(what, n, chain, levels, out, at);
-    let after = took.chain;
+    let took = capture::takes::samples(what, state.n, state.chain, levels, out, at);
     Step {
         state: State {
-            n,
-            chain: after,
-            place: std::num::wrapping_add_u64(state.place, levels.len() as u64),
+            chain: took.chain,
+            place: state.place.wrapping_add(levels.len() as u64),
             held: held::none(),
-            reader,
+            ..state
         },
         over: false,
         at: took.at,
@@ -77,26 +58,29 @@ fn looked(what: Report, state: State, bytes: &[u8], out: &mut [u8], at: usize) -
     requires bytes_in_bounds { at + sample_room * run_length bytes.now ≤ length out.old }
     ensures { P.Runs what state bytes.now at out.old result out.new }
 {
-    let n = state.n;
-    let chain = state.chain;
-    let before = state.reader;
-    let ran = reads::samples(what, n, chain, before, state.place, bytes, out, at);
-    let after = ran.chain;
-    let reader = ran.reader;
-    let count = ran.count;
+    let ran = reads::samples(
+        what,
+        state.n,
+        state.chain,
+        state.reader,
+        state.place,
+        bytes,
+        out,
+        at,
+    );
     Ran {
         step: Step {
             state: State {
-                n,
-                chain: after,
-                place: std::num::wrapping_add_u64(state.place, count as u64),
+                n: state.n,
+                chain: ran.chain,
+                place: state.place.wrapping_add(ran.count as u64),
                 held: held::none(),
-                reader,
+                reader: ran.reader,
             },
             over: false,
             at: ran.at,
         },
-        count,
+        count: ran.count,
     }
 }
 
@@ -115,16 +99,15 @@ pub(crate) fn run(
     requires bytes_in_bounds { at + sample_room * (run_length (drop from bytes.now) + 1) ≤ length out.old }
     ensures { P.Runs what state (drop from bytes.now) at out.old result out.new }
 {
-    let reader = state.reader;
-    if reads::is_looking(reader) {
-        return looked(what, state, &bytes[from..], out, at);
+    let rest = &bytes[from..];
+    if !reads::is_looking(state.reader) {
+        let count = plain_length(rest);
+        if count > 0 {
+            return Ran {
+                step: played(what, state, &rest[..count], out, at),
+                count,
+            };
+        }
     }
-    let end = plain_end(bytes, from);
-    if end == from {
-        return looked(what, state, &bytes[from..], out, at);
-    }
-    Ran {
-        step: played(what, state, &bytes[from..end], out, at),
-        count: end - from,
-    }
+    looked(what, state, rest, out, at)
 }

@@ -32,20 +32,14 @@ fn first(state: State, frame: Frame, out: &mut [u8], at: usize) -> Step
     requires at_in_bounds { at + 13 ≤ length out.old }
     ensures { P.Steps (S.first_taken state (first_of (held_by frame))) at out.old result out.new }
 {
-    let number = state.place;
-    let bytes = frame.bytes;
-    let count = frame.count;
-    let n = capture::frames::chips_in(&bytes[..count]);
-    if n == 0 {
-        return refused(state, Refusal::Line(number), out, at);
-    }
-    let begun = chain::start(n);
-    let chain = begun.chain;
+    let Some(n) = capture::frames::chips_in(&frame.bytes[..frame.count]) else {
+        return refused(state, Refusal::Line(state.place), out, at);
+    };
     Step {
         state: State {
             n,
-            chain,
-            place: number + 1,
+            chain: chain::start(n).value,
+            place: state.place + 1,
             held: held::none(),
             reader: reads::start(),
         },
@@ -60,27 +54,20 @@ fn ended(what: Report, state: State, out: &mut [u8], at: usize) -> Step
     requires line_room_in_bounds { at + line_room ≤ length out.old }
     ensures { P.Steps (S.line_ended what state) at out.old result out.new }
 {
-    let n = state.n;
-    let chain = state.chain;
-    let number = state.place;
-    let held = state.held;
-    let reader = state.reader;
-    let frame = held::frame(held);
-    if !chain::checks::is_count(n) {
+    let frame = held::frame(state.held);
+    if !chain::checks::is_count(state.n) {
         return first(state, frame, out, at);
     }
-    let took = capture::takes::line(what, n, chain, frame, out, at);
+    let took = capture::takes::line(what, state.n, state.chain, frame, out, at);
     if !took.taken {
-        return refused(state, Refusal::Line(number), out, at);
+        return refused(state, Refusal::Line(state.place), out, at);
     }
-    let after = took.chain;
     Step {
         state: State {
-            n,
-            chain: after,
-            place: number + 1,
+            chain: took.chain,
+            place: state.place + 1,
             held: held::none(),
-            reader,
+            ..state
         },
         over: false,
         at: took.at,
@@ -96,14 +83,13 @@ pub(crate) fn fed(what: Report, state: State, bytes: &[u8], out: &mut [u8]) -> S
     let mut next = state;
     let mut at = 0;
     let mut i = 0;
+    // a turn is as long as the line that it takes, so no iterator counts it
     while i < bytes.len() {
         if next.place >= 4294967296 {
             return refused(next, Refusal::Text, out, at);
         }
         let end = lines::line_end(bytes, i);
-        let held = next.held;
-        let grown = held::grown(held, &bytes[i..end]);
-        next.held = grown;
+        next.held = held::grown(next.held, &bytes[i..end]);
         if end >= bytes.len() {
             return Step {
                 state: next,
@@ -115,8 +101,7 @@ pub(crate) fn fed(what: Report, state: State, bytes: &[u8], out: &mut [u8]) -> S
         if step.over {
             return step;
         }
-        let after = step.state;
-        next = after;
+        next = step.state;
         at = step.at;
         i = end + 1;
     }

@@ -1,24 +1,22 @@
 -- The lines of a tally, seen from the places of the code that writes them.
---     chip_bytes, chip_line_is, chip_length             a chip's line
---     code_bytes, code_none, code_line_is, code_room    a code's
+--     chip_bytes, chip_length                           a chip's line
+--     code_bytes, code_room                             a code's
 --     end_room                                         a refusal's
 --     chips_fit, codes_fit, end_fits, prints_so        the three parts of the whole, put one after another
 --     printed_room, prints_counts                      the whole always fits, and the answer counts bytes at the array's front
 -- Assumes nothing.
-use mathlib.Core.Path.{◌≡◌, ap, sym, subst, ◌∙◌}
-use mathlib.Core.List.{List, [], ◌∷◌, ◌++◌}
+use mathlib.Core.Path.{◌≡◌, sym, subst}
+use mathlib.Core.List.{List, ◌∷◌, ◌++◌}
 use Prim.Native.Nat.{ℕ, ◌+◌, ◌*◌, ◌≤◌}
 use native.Mathlib.Omega.{arith}
-use borrow.Author.Tests.{eq-eqb, ne_eqb}
 use lib.Dec.{eqb}
 use lib.ListN.{length, take, length-append}
 use Rattle.base.specs.Lent.{Counts}
-use Rattle.base.specs.Refusals.{Told, done, refused, verdict_tells}
-use Rattle.base.specs.declared.Verdict.{Verdict}
+use Rattle.base.specs.Refusals.{Told, done, refused, tells}
 use Rattle.base.proofs.Lent.{laid_counts}
-use Rattle.base.proofs.Picks.{pick_yes, pick_no, pick_cases}
+use Rattle.base.proofs.Picks.{pick_cases}
 use Rattle.lines.specs.Answers.{Puts}
-use Rattle.lines.specs.Lines.{line_for, lines_at, eight_bytes}
+use Rattle.lines.specs.Lines.{lines_at, eight_bytes}
 use Rattle.lines.proofs.Each.{lines_room, front_many}
 use Rattle.lines.proofs.Puts.{eight_of, line_for_length, puts_room, puts_both}
 use Rattle.chain.specs.Chain.{most}
@@ -27,6 +25,8 @@ use Rattle.capture.proofs.Reported.{refusal_length}
 use Rattle.tallies.specs.declared.Counts.{Counts as Four}
 use Rattle.tallies.specs.declared.Tally.{Tally}
 use Rattle.tallies.specs.Printed.{chip_line, code_line, tally_lines, printed_of, Prints}
+use Rattle.std.specs.declared.result.Result.{Result}
+use Rattle.base.specs.declared.Refusal.{Refusal}
 
 -- ---- one line
 
@@ -38,18 +38,6 @@ code_bytes code a = 0x14 ∷ code ∷ eight_of a
 
 pub chip_length : (k : ℕ) (c : Four) → length (chip_line k c) ≡ 69
 chip_length k c = line_for_length (chip_bytes k (eight_bytes c.recorded) (eight_bytes c.read) (eight_bytes c.overwritten) (eight_bytes c.cleared))
-
-pub chip_line_is : (k : ℕ) (c : Four) {a b d e : List ℕ} → a ≡ eight_bytes c.recorded → b ≡ eight_bytes c.read → d ≡ eight_bytes c.overwritten
-    → e ≡ eight_bytes c.cleared
-    → chip_line k c ≡ line_for (chip_bytes k a b d e)
-chip_line_is k c p q r s = λ i. line_for (chip_bytes k (sym p i) (sym q i) (sym r i) (sym s i))
-
-pub code_none : (code count : ℕ) → count ≡ 0 → code_line code count ≡ []
-code_none code count e = pick_yes [] (line_for (0x14 ∷ code ∷ eight_bytes count)) (eq-eqb count 0 e)
-
-pub code_line_is : (code count : ℕ) {a : List ℕ} → (count ≡ 0 → ⊥) → a ≡ eight_bytes count → code_line code count ≡ line_for (code_bytes code a)
-code_line_is code count n e =
-    pick_no [] (line_for (0x14 ∷ code ∷ eight_bytes count)) (ne_eqb count 0 n) ∙ ap (λ a. line_for (code_bytes code a)) (sym e)
 
 pub code_room : (code count : ℕ) → length (code_line code count) ≤ 21
 code_room code count =
@@ -69,13 +57,13 @@ chips_of t = lines_at chip_line 0 (take t.largest t.chips)
 abbrev codes_of : Tally → List ℕ
 codes_of t = lines_at code_line 0 t.codes
 
-module _ (t : Tally) (end : Verdict) (out : List ℕ) (room : length (printed_of t end) ≤ length out) where
-  fits : 0 + length (tally_lines t ++ end_line (verdict_tells end)) ≤ length out
+module _ (t : Tally) (end : Result (Unit {0}) Refusal) (out : List ℕ) (room : length (printed_of t end) ≤ length out) where
+  fits : 0 + length (tally_lines t ++ end_line (tells end)) ≤ length out
   unfolding printed_of
   fits = omega (arith, room)
 
   both_fit : 0 + length (tally_lines t) ≤ length out
-  both_fit = omega (arith, fits, length-append (tally_lines t) (end_line (verdict_tells end)))
+  both_fit = omega (arith, fits, length-append (tally_lines t) (end_line (tells end)))
 
   pub chips_fit : 0 + length (chips_of t) ≤ length out
   chips_fit = omega (arith, both_fit, length-append (chips_of t) (codes_of t))
@@ -88,30 +76,30 @@ module _ (t : Tally) (end : Verdict) (out : List ℕ) (room : length (printed_of
       both : Puts (tally_lines t) 0 out s out''
       both = puts_both (chips_of t) (codes_of t) both_fit first second
 
-      pub end_fits : s + length (end_line (verdict_tells end)) ≤ length out''
-      end_fits = puts_room (tally_lines t) (end_line (verdict_tells end)) fits both
+      pub end_fits : s + length (end_line (tells end)) ≤ length out''
+      end_fits = puts_room (tally_lines t) (end_line (tells end)) fits both
 
-      pub prints_so : {u : ℕ} {last : List ℕ} → Puts (end_line (verdict_tells end)) s out'' u last → Prints t end out u last
+      pub prints_so : {u : ℕ} {last : List ℕ} → Puts (end_line (tells end)) s out'' u last → Prints t end out u last
       unfolding printed_of
       prints_so third =
-          let whole = puts_both (tally_lines t) (end_line (verdict_tells end)) fits both third in
+          let whole = puts_both (tally_lines t) (end_line (tells end)) fits both third in
           record { count = omega (arith, whole.answer); bytes = whole.bytes }
 
-pub printed_room : (t : Tally) (end : Verdict) → length t.chips ≡ most → length t.codes ≡ 128
+pub printed_room : (t : Tally) (end : Result (Unit {0}) Refusal) → length t.chips ≡ most → length t.codes ≡ 128
     → length (printed_of t end) ≤ 69 * most + 21 * 128 + 13
 unfolding printed_of
 printed_room t end c d =
     let few : length (take t.largest t.chips) ≤ most = front_many t.largest t.chips most (omega arith) in
     omega (
       arith,
-      length-append (tally_lines t) (end_line (verdict_tells end)),
+      length-append (tally_lines t) (end_line (tells end)),
       length-append (chips_of t) (codes_of t),
       lines_room chip_line 69 (λ k x. omega (arith, chip_length k x)) 0 (take t.largest t.chips),
       lines_room code_line 21 code_room 0 t.codes,
-      end_room (verdict_tells end),
+      end_room (tells end),
     )
 
-pub prints_counts : {t : Tally} {end : Verdict} {out : List ℕ} {r : ℕ} {out' : List ℕ} → length (printed_of t end) ≤ length out
+pub prints_counts : {t : Tally} {end : Result (Unit {0}) Refusal} {out : List ℕ} {r : ℕ} {out' : List ℕ} → length (printed_of t end) ≤ length out
     → Prints t end out r out'
     → Counts r out'
 prints_counts {t} {end} {out} {r} {out'} room p =

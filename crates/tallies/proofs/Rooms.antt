@@ -1,14 +1,17 @@
 -- Room for more in the counts of a tally.
+--     every_all                     a test of every element is std's
 --     Rooms, rooms, rooms_back      what refusal 16's test says of a chip's four counts, and back
 --     fits_parts, fits_both         of a tally: its chips and its codes
 --     within_room                   the test as the code makes it
 --     plus_room                     one more spends one
 -- Assumes nothing.
-use mathlib.Core.Path.{◌≡◌, ap₂, sym, ◌∙◌}
-use mathlib.Core.Bool.{true, ◌&&◌, and-eq-true_iff}
+use mathlib.Core.Path.{◌≡◌, refl, ap, ap₂, sym, ◌∙◌}
+use mathlib.Core.List.{List, [], ◌∷◌}
+use mathlib.Core.Bool.{Bool, true, ◌&&◌, and-eq-true_iff}
 use Prim.Native.Nat.{ℕ, suc, ◌+◌, ◌-◌, ◌≤◌}
 use native.Mathlib.Omega.{arith}
 use borrow.Author.Tests.{leb-true, le-leb, lt-leb}
+use Rattle.std.specs.List.{list_all}
 use Rattle.base.proofs.Tests.{by_order}
 use Rattle.tallies.specs.declared.Counts.{Counts}
 use Rattle.tallies.specs.declared.Tally.{Tally}
@@ -17,6 +20,11 @@ use Rattle.tallies.specs.Parts.{AtMostOne, at_most, within}
 use Rattle.base.specs.Below.{every}
 use Rattle.tallies.specs.Tallies.{largest_count, has_room, have_room, fits}
 use Rattle.base.proofs.Every.{every_alike}
+
+every_all : {A : Type 0} (test : A → Bool) (xs : List A) → every test xs ≡ list_all test xs
+unfolding every
+every_all test [] = refl
+every_all test (x ∷ xs) = ap (λ b. test x && b) (every_all test xs)
 
 -- each of the four plus so many isn't above the largest
 pub record Rooms (m : ℕ) (c : Counts) : Type 0 where
@@ -61,11 +69,12 @@ four_within m h c = λ i.
     one_within m h c.recorded i && one_within m h c.read i && one_within m h c.overwritten i && one_within m h c.cleared i
 
 pub within_room : (m : ℕ) (t : Tally) → m ≤ largest_count
-    → (every (within (largest_count - m)) t.chips && every (at_most (largest_count - m)) t.codes) ≡ fits m t
+    → (list_all (within (largest_count - m)) t.chips && list_all (at_most (largest_count - m)) t.codes) ≡ fits m t
 unfolding fits
 within_room m t h =
-    ap₂ ◌&&◌ (every_alike (within (largest_count - m)) (have_room m) t.chips (four_within m h))
-    (every_alike (at_most (largest_count - m)) (has_room m) t.codes (one_within m h))
+    ap₂ ◌&&◌
+    (sym (every_all (within (largest_count - m)) t.chips) ∙ every_alike (within (largest_count - m)) (have_room m) t.chips (four_within m h))
+    (sym (every_all (at_most (largest_count - m)) t.codes) ∙ every_alike (at_most (largest_count - m)) (has_room m) t.codes (one_within m h))
 
 -- ---- one more spends one
 

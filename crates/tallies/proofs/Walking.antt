@@ -14,23 +14,26 @@ use native.Mathlib.Numerals.{add-one}
 use native.Mathlib.Omega.{arith}
 use borrow.Author.Tests.{le-leb, lt-leb}
 use lib.ListN.{length, take, drop, drop_of_length-le}
-use Rattle.base.specs.Refusals.{Told, done, refused, Outcome, hands_back, once_tested}
+use Rattle.std.specs.Prelude.{Some, None, Result, Ok, Err, is_err}
+use Rattle.base.specs.declared.Refusal.{Refusal}
+use Rattle.base.specs.Refusals.{tells, done, Outcome, hands_back, once_tested, handed}
 use Rattle.base.proofs.Picks.{pick_yes, pick_no}
 use Rattle.chain.specs.Chain.{most}
-use Rattle.chain.specs.declared.HandedChain.{HandedChain}
-use Rattle.chain.specs.Entries.{handed_chain, started_of}
+use Rattle.chain.specs.Entries.{started_of}
 use Rattle.lines.specs.declared.Frame.{Frame}
 use Rattle.lines.specs.Answers.{line_length, held_in, frame_for, held_by}
 use Rattle.lines.specs.Lines.{Line, ended, lines_of, bytes_in}
 use Rattle.capture.specs.Frames.{form_of}
-use Rattle.capture.specs.Parts.{first_in, chips_in}
+use Rattle.capture.specs.Parts.{first_in, chips_told}
 use Rattle.capture.proofs.EachLine.{line_cut, line_next, frame_form}
 use Rattle.capture.proofs.Firsts.{first_none, begun_lines, begun_first, begun_chain}
 use Rattle.tallies.specs.declared.Tally.{Tally}
 use Rattle.tallies.specs.declared.walk.Counting.{Counting}
 use Rattle.tallies.specs.declared.walk.Took.{Took}
 use Rattle.tallies.specs.Counted.{counted_line, counted_lines, begun, with_chips, counted_after, counted_all, walked, counted_of}
-use Rattle.tallies.specs.Parts.{took_of, is_taken, tally_of}
+use Rattle.tallies.specs.Parts.{took_of, tally_of}
+use Rattle.base.specs.declared.Handed.{Handed}
+use Rattle.chain.specs.declared.Chain.{Chain}
 
 -- ---- the loop over the lines
 
@@ -45,16 +48,14 @@ pub walking_start : (n : ℕ) (text : List ℕ) (s : Counting) (from : ℕ) → 
 walking_start n text s from w short = record { within = w; short = short; few = omega arith; left = refl }
 
 -- what was taken goes on, and what was refused ends it
-goes_on : (t : Told (Unit {0})) (s : Counting) (next : Outcome Counting (Unit {0})) → is_taken t ≡ true → once_tested t s next ≡ next
-goes_on (done u) s next e = refl
-goes_on (refused number place) s next e = absurd (true≢false (sym e))
+goes_on : (answer : Result (Unit {0}) Refusal) (s : Counting) (next : Outcome Counting (Unit {0})) → is_err answer ≡ false → once_tested (tells answer) s next ≡ next
+goes_on (Ok u) s next e = refl
+goes_on (Err refusal) s next e = absurd (true≢false e)
 
-ends : (o next : Outcome Counting (Unit {0})) → is_taken o.told ≡ false → once_tested o.told o.state next ≡ o
-ends o next e = go o.told e
-  where
-    go : (t : Told (Unit {0})) → is_taken t ≡ false → once_tested t o.state next ≡ record { state = o.state; told = t }
-    go (done u) z = absurd (true≢false z)
-    go (refused number place) z = refl
+ends : (answer : Result (Unit {0}) Refusal) (s : Counting) (next : Outcome Counting (Unit {0})) → is_err answer ≡ true
+    → once_tested (tells answer) s next ≡ record { state = s; told = tells answer }
+ends (Ok u) s next e = absurd (true≢false (sym e))
+ends (Err refusal) s next e = refl
 
 module _ {n : ℕ} {text : List ℕ} {whole : Outcome Counting (Unit {0})} {next : Counting} {number place : ℕ} (w : Walking n text whole next number place) where
   pub walking_over : length text ≤ place → record { state = next; told = done tt } ≡ whole
@@ -80,10 +81,10 @@ module _ {n : ℕ} {text : List ℕ} {whole : Outcome Counting (Unit {0})} {next
           ap (counted_lines n number next) (line_next text place end here more)
           ∙ ap (λ (o : Outcome Counting (Unit {0})). once_tested o.told o.state (counted_lines n (suc number) o.state (lines_of (drop (end + 1) text)))) (sym took_so)
 
-      pub walking_refused : is_taken (took_of t).told ≡ false → took_of t ≡ whole
-      walking_refused e = sym (left_so ∙ ends (took_of t) _ e) ∙ w.left
+      pub walking_refused : is_err t.answer ≡ true → took_of t ≡ whole
+      walking_refused e = sym (left_so ∙ ends t.answer t.state _ e) ∙ w.left
 
-      pub walking_more : is_taken (took_of t).told ≡ true → Walking n text whole t.state (number + 1) (end + 1)
+      pub walking_more : is_err t.answer ≡ false → Walking n text whole t.state (number + 1) (end + 1)
       walking_more e =
           record {
             within = omega arith;
@@ -91,24 +92,24 @@ module _ {n : ℕ} {text : List ℕ} {whole : Outcome Counting (Unit {0})} {next
             few = omega (arith, w.few);
             left =
                 ap (λ k. counted_lines n k t.state (lines_of (drop (end + 1) text))) (add-one number)
-                ∙ sym (left_so ∙ goes_on (took_of t).told t.state (counted_lines n (suc number) t.state (lines_of (drop (end + 1) text))) e)
+                ∙ sym (left_so ∙ goes_on t.answer t.state (counted_lines n (suc number) t.state (lines_of (drop (end + 1) text))) e)
                 ∙ w.left;
           }
 
 -- ---- the first line
 
-pub none_counted : (t : Tally) (ls : List Line) → chips_in (first_in ls) ≡ 0 → counted_all t ls ≡ hands_back (begun t) 10 1
+pub none_counted : (t : Tally) (ls : List Line) → None ≡ chips_told (first_in ls) → counted_all t ls ≡ hands_back (begun t) 10 1
 none_counted t [] e = refl
 none_counted t (l ∷ ls) e = ap (λ said. counted_after t said ls) (first_none l e).1
 
 -- a chain started, and the lines after the first
-pub begun_counted : (t : Tally) (text : List ℕ) (end n : ℕ) (h : HandedChain) → end ≡ 0 + line_length text → n ≡ chips_in (first_in (lines_of text)) → (n ≡ 0 → ⊥)
-    → handed_chain h ≡ started_of n
-    → counted_all t (lines_of text) ≡ counted_lines n 2 (record { chain = h.chain; tally = with_chips n t }) (lines_of (drop (end + 1) text))
-begun_counted t text end n h here chips some start =
-    ap (counted_all t) (begun_lines text end n h here chips some start)
-    ∙ ap (λ said. counted_after t said (lines_of (drop (end + 1) text))) (begun_first text end n h here chips some start)
-    ∙ ap (λ c. counted_lines n 2 (record { chain = c; tally = with_chips n t }) (lines_of (drop (end + 1) text))) (sym (begun_chain text end n h here chips some start))
+pub begun_counted : (t : Tally) (text : List ℕ) (end n : ℕ) (h : Handed Chain (Unit {0})) → end ≡ 0 + line_length text → Some n ≡ chips_told (first_in (lines_of text))
+    → handed h ≡ started_of n
+    → counted_all t (lines_of text) ≡ counted_lines n 2 (record { chain = h.value; tally = with_chips n t }) (lines_of (drop (end + 1) text))
+begun_counted t text end n h here chips start =
+    ap (counted_all t) (begun_lines text end n h here chips start)
+    ∙ ap (λ said. counted_after t said (lines_of (drop (end + 1) text))) (begun_first text end n h here chips start)
+    ∙ ap (λ c. counted_lines n 2 (record { chain = c; tally = with_chips n t }) (lines_of (drop (end + 1) text))) (sym (begun_chain text end n h here chips start))
 
 -- ---- a text
 

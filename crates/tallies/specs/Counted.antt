@@ -2,7 +2,7 @@
 -- Assumes nothing.
 use Rattle.std.specs.Prelude.{ℕ, suc, List, [], ◌∷◌, map, leb, length}
 use Rattle.base.specs.Pick.{pick}
-use Rattle.base.specs.Refusals.{Told, done, refused, Outcome, hands_back, verdict_tells, once_tested}
+use Rattle.base.specs.Refusals.{Told, done, refused, Outcome, hands_back, once_tested}
 use Rattle.chain.specs.declared.Chain.{Chain}
 use Rattle.chain.specs.Chain.{most}
 use Rattle.chain.specs.Entries.{start_chain}
@@ -11,7 +11,6 @@ use Rattle.chain.specs.Events.{Event, sample, happened}
 use Rattle.lines.specs.Lines.{Line, lines_of, bytes_in}
 use Rattle.capture.specs.Frames.{Form, samples, scan, other, form_of, first_of}
 use Rattle.tallies.specs.declared.Tally.{Tally}
-use Rattle.tallies.specs.declared.Counted.{Counted}
 use Rattle.tallies.specs.declared.walk.Counting.{Counting}
 use Rattle.tallies.specs.Tallies.{added, fits}
 
@@ -77,6 +76,3 @@ walked t text =
 -- the tally handed back, and how the text ended
 abbrev pub counted_of : Tally → List ℕ → Outcome Tally (Unit {0})
 counted_of t text = record { state = (walked t text).state.tally; told = (walked t text).told }
-
-abbrev pub handed_tally : Counted → Outcome Tally (Unit {0})
-handed_tally r = record { state = r.tally; told = verdict_tells r.answer }

@@ -1,9 +1,9 @@
 -- What the inner functions promise to one another. No public promise cites these.
 -- Assumes nothing.
-use Rattle.std.specs.Prelude.{ℕ, ◌+◌, ◌≤◌, Bool, true, false, ◌&&◌, List, eqb, leb, ltb, get_or}
+use Rattle.std.specs.Prelude.{ℕ, ◌+◌, ◌≤◌, Bool, ◌&&◌, List, eqb, leb, ltb, get_or}
 use Rattle.base.specs.Bits.{bit_value}
 use Rattle.base.specs.Pick.{pick}
-use Rattle.base.specs.Refusals.{Told, done, refused, Outcome, verdict_tells}
+use Rattle.base.specs.Refusals.{Outcome, tells}
 use Rattle.word.specs.Words.{decoded_of}
 use Rattle.chip.specs.declared.Chip.{Chip}
 use Rattle.chip.specs.Record.{reset_chip}
@@ -68,11 +68,7 @@ counting_after n es s = counting (happened n es s.chain) (added n es s.chain s.t
 
 -- what a line leaves and tells
 abbrev pub took_of : Took → Outcome Counting (Unit {0})
-took_of t = record { state = t.state; told = verdict_tells t.answer }
-
-abbrev pub is_taken : Told (Unit {0}) → Bool
-is_taken (done u) = true
-is_taken (refused number place) = false
+took_of t = record { state = t.state; told = tells t.answer }
 
 -- of a chain and a tally the tally
 abbrev pub tally_of : Outcome Counting (Unit {0}) → Outcome Tally (Unit {0})

@@ -4,12 +4,13 @@
 use Rattle.std.specs.Prelude.{◌≡◌, ℕ, List, [], ◌∷◌, ◌++◌, eqb, length, take}
 use Rattle.base.specs.Lent.{laid}
 use Rattle.base.specs.Pick.{pick}
-use Rattle.base.specs.Refusals.{verdict_tells}
-use Rattle.base.specs.declared.Verdict.{Verdict}
 use Rattle.lines.specs.Lines.{line_for, lines_at, eight_bytes}
 use Rattle.capture.specs.Law.{end_line}
 use Rattle.tallies.specs.declared.Counts.{Counts}
 use Rattle.tallies.specs.declared.Tally.{Tally}
+use Rattle.std.specs.declared.result.Result.{Result}
+use Rattle.base.specs.declared.Refusal.{Refusal}
+use Rattle.base.specs.Refusals.{tells}
 
 -- 13, chip, and its four counts
 abbrev pub chip_line : ℕ → Counts → List ℕ
@@ -24,10 +25,10 @@ abbrev pub tally_lines : Tally → List ℕ
 tally_lines t = lines_at chip_line 0 (take t.largest t.chips) ++ lines_at code_line 0 t.codes
 
 -- and the line of a refusal last
-unfoldable pub printed_of : Tally → Verdict → List ℕ
-printed_of t end = tally_lines t ++ end_line (verdict_tells end)
+unfoldable pub printed_of : Tally → (Result (Unit {0}) Refusal) → List ℕ
+printed_of t end = tally_lines t ++ end_line (tells end)
 
 -- what `print` does: the lines stand at the front of the lent array, the rest is as it was, and the answer is how many bytes they have
-pub record Prints (t : Tally) (end : Verdict) (out : List ℕ) (r : ℕ) (out' : List ℕ) : Type 0 where
+pub record Prints (t : Tally) (end : Result (Unit {0}) Refusal) (out : List ℕ) (r : ℕ) (out' : List ℕ) : Type 0 where
   pub count : r ≡ length (printed_of t end)
   pub bytes : out' ≡ laid (printed_of t end) out

@@ -13,7 +13,7 @@ ghost use Rattle.tallies.specs.Tallies as T;
 use crate::{Counts, Tally};
 use chain::Chain;
 use chip::{Chip, Recorded};
-use word::{Command, Decoded};
+use word::Command;
 
 // Four counts.
 fn four(recorded: u64, read: u64, overwritten: u64, cleared: u64) -> Counts
@@ -38,35 +38,12 @@ fn none() -> Counts
 fn of_command(command: Command, keyb: bool, stands: bool) -> Counts
     ensures { result ≡ C.command_counts command keyb stands }
 {
-    let nothing = none();
-    let one = base::bit_value(stands) as u64;
+    let one = u64::from(stands);
     match command {
-        Command::NoOperation => nothing,
-        Command::BarLevel(_) => nothing,
-        Command::SegmentClear(_) => nothing,
-        Command::SegmentSet(_) => nothing,
         Command::Reset => four(0, 0, 0, one),
-        Command::Sleep => nothing,
-        Command::ShiftLeft => nothing,
-        Command::ShiftRight => nothing,
-        Command::RotateLeft => nothing,
-        Command::RotateRight => nothing,
-        Command::CustomCharacter(_) => nothing,
-        Command::SystemParameters(s) => {
-            if s.keyb {
-                return nothing;
-            }
-            four(0, 0, 0, one)
-        }
-        Command::DisplayParameters(_) => nothing,
-        Command::BlinkByte(_) => nothing,
-        Command::ReadKey => {
-            if !keyb {
-                return nothing;
-            }
-            four(0, one, 0, 0)
-        }
-        Command::LoadDigit { .. } => nothing,
+        Command::SystemParameters(s) if !s.keyb => four(0, 0, 0, one),
+        Command::ReadKey if keyb => four(0, one, 0, 0),
+        _ => none(),
     }
 }
 
@@ -75,10 +52,9 @@ fn of_record(what: Recorded) -> Counts
     ensures { result ≡ C.record_counts (recording_of what) }
 {
     match what {
-        Recorded::Nothing => none(),
         Recorded::Key(_) => four(1, 0, 0, 0),
         Recorded::OverUnread(_) => four(1, 0, 1, 0),
-        Recorded::Released => none(),
+        Recorded::Nothing | Recorded::Released => none(),
     }
 }
 
@@ -88,15 +64,11 @@ fn plus(a: Counts, b: Counts) -> Counts
     requires at_most_one { P.AtMostOne b }
     ensures { result ≡ C.plus a b }
 {
-    let recorded = a.recorded + b.recorded;
-    let read = a.read + b.read;
-    let overwritten = a.overwritten + b.overwritten;
-    let cleared = a.cleared + b.cleared;
     Counts {
-        recorded,
-        read,
-        overwritten,
-        cleared,
+        recorded: a.recorded + b.recorded,
+        read: a.read + b.read,
+        overwritten: a.overwritten + b.overwritten,
+        cleared: a.cleared + b.cleared,
     }
 }
 
@@ -107,10 +79,9 @@ fn obeys(c: Counts, before: Chip, word: u16) -> Counts
 {
     let keyb = before.settings.system.keyb;
     let stands = before.keys.interrupt;
-    let means = word::decode(word);
-    match means {
-        Decoded::Means(command) => plus(c, of_command(command, keyb, stands)),
-        Decoded::Refused(_) => c,
+    match word::decode(word) {
+        Ok(command) => plus(c, of_command(command, keyb, stands)),
+        Err(_) => c,
     }
 }
 
@@ -120,24 +91,11 @@ pub(crate) fn rise(n: usize, before: Chain, after: Chain, tally: Tally) -> Tally
     requires tally_value { T.fits 1 tally ≡ true }
     ensures { result ≡ P.risen n before after tally }
 {
-    let befores = before.chips;
-    let afters = after.chips;
-    let codes = tally.codes;
     let mut chips = tally.chips;
-    let mut k = 0;
-    while k < n {
-        let c = chips[k];
-        let b = befores[k];
-        let a = afters[k];
-        let more = obeys(c, b, a.line.register);
-        chips[k] = more;
-        k += 1;
+    for k in 0..n {
+        chips[k] = obeys(chips[k], before.chips[k], after.chips[k].line.register);
     }
-    Tally {
-        chips,
-        codes,
-        largest: tally.largest,
-    }
+    Tally { chips, ..tally }
 }
 
 // One more for a code; one above 127 has no tally.
@@ -147,11 +105,9 @@ fn one_more(codes: [u64; 128], code: u8) -> [u64; 128]
 {
     let mut next = codes;
     let at = code as usize;
-    if at >= 128 {
-        return next;
+    if at < next.len() {
+        next[at] += 1;
     }
-    let more = next[at] + 1;
-    next[at] = more;
     next
 }
 
@@ -161,10 +117,8 @@ fn codes_after(codes: [u64; 128], what: Recorded) -> [u64; 128]
     ensures { result ≡ P.codes_after (recording_of what) codes }
 {
     match what {
-        Recorded::Nothing => codes,
-        Recorded::Key(code) => one_more(codes, code),
-        Recorded::OverUnread(code) => one_more(codes, code),
-        Recorded::Released => codes,
+        Recorded::Key(code) | Recorded::OverUnread(code) => one_more(codes, code),
+        Recorded::Nothing | Recorded::Released => codes,
     }
 }
 
@@ -175,14 +129,10 @@ pub(crate) fn scan(tally: Tally, k: usize, what: Recorded) -> Tally
     ensures { result ≡ P.scanned_tally k (recording_of what) tally }
 {
     let mut chips = tally.chips;
-    let codes = tally.codes;
-    let own = chips[k];
-    let more = plus(own, of_record(what));
-    chips[k] = more;
-    let codes = codes_after(codes, what);
+    chips[k] = plus(chips[k], of_record(what));
     Tally {
         chips,
-        codes,
+        codes: codes_after(tally.codes, what),
         largest: tally.largest,
     }
 }

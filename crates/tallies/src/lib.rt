@@ -9,12 +9,13 @@ mod room;
 mod walk;
 
 ghost use Rattle.std.specs.Prelude.{◌≡◌};
+ghost use Rattle.base.specs.Refusals.{handed};
 ghost use Rattle.base.specs.Lent as Lent;
 ghost use Rattle.tallies.specs.Counted as C;
 ghost use Rattle.tallies.specs.Printed as P;
 ghost use Rattle.tallies.specs.Tallies as T;
 
-use base::{Refusal, Verdict};
+use base::{Handed, Refusal};
 
 // What is counted of one chip: codes recorded; read words that found an interrupt; codes recorded over an unread one; interrupts
 // cleared by reset or by KEYB 0.
@@ -32,13 +33,6 @@ pub struct Tally {
     pub chips: [Counts; chain::MOST],
     pub codes: [u64; 128],
     pub largest: usize,
-}
-
-// A tally handed back, and whether the capture was taken to its end or what refused it.
-#[derive(Clone, Copy)]
-pub struct Counted {
-    pub tally: Tally,
-    pub answer: Verdict,
 }
 
 // How long the lines of any tally can be: 69 bytes a chip, 21 a code, and a refusal's 13.
@@ -62,26 +56,26 @@ pub fn fresh() -> Tally
 }
 
 // Counts a capture's text, and goes on from a tally: refusals 11, 12, 10, 16. What the lines before a refused one counted stands.
-pub fn count(tally: Tally, text: &[u8]) -> Counted
-    ensures { C.handed_tally result ≡ C.counted_of tally text.now }
+pub fn count(tally: Tally, text: &[u8]) -> Handed<Tally, ()>
+    ensures { handed result ≡ C.counted_of tally text.now }
 {
     if text.len() > capture::LONGEST {
-        return Counted {
-            tally,
-            answer: Verdict::Refused(Refusal::Text),
+        return Handed {
+            value: tally,
+            answer: Err(Refusal::Text),
         };
     }
     if tally.largest > chain::MOST {
-        return Counted {
-            tally,
-            answer: Verdict::Refused(Refusal::Record),
+        return Handed {
+            value: tally,
+            answer: Err(Refusal::Record),
         };
     }
     walk::whole(tally, text)
 }
 
 // The lines of a tally, and then that of a refusal, if the last capture was refused: how many bytes stand at the array's front.
-pub fn print(tally: Tally, end: Verdict, out: &mut [u8; ROOM]) -> usize
+pub fn print(tally: Tally, end: Result<(), Refusal>, out: &mut [u8; ROOM]) -> usize
     ensures prints { P.Prints tally end out.old result out.new }
     ensures counts { Lent.Counts result out.new }
 {

@@ -1,6 +1,6 @@
 // The walk over a capture's text: line by line, each tested whole before any of it is played and counted.
 ghost use Rattle.std.specs.Prelude.{◌≡◌, true, ◌≤◌, ◌<◌, map, length, drop};
-ghost use Rattle.base.specs.Refusals.{verdict_tells};
+ghost use Rattle.base.specs.Refusals.{handed};
 ghost use Rattle.capture.specs.Frames as F;
 ghost use Rattle.chain.specs.Chain.{most};
 ghost use Rattle.chain.specs.Events as Events;
@@ -10,8 +10,8 @@ ghost use Rattle.tallies.specs.Counted as C;
 ghost use Rattle.tallies.specs.Parts as P;
 ghost use Rattle.tallies.specs.Tallies as T;
 
-use crate::{Counted, Tally, adds, room};
-use base::{Refusal, Verdict};
+use crate::{Tally, adds, room};
+use base::{Handed, Refusal};
 use capture::frames::Form;
 use chain::Chain;
 use lines::Frame;
@@ -27,17 +27,7 @@ pub(crate) struct Counting {
 #[derive(Clone, Copy)]
 pub(crate) struct Took {
     pub(crate) state: Counting,
-    pub(crate) answer: Verdict,
-}
-
-// Whether a line was taken.
-fn is_taken(answer: Verdict) -> bool
-    ensures { result ≡ P.is_taken (verdict_tells answer) }
-{
-    match answer {
-        Verdict::Done => true,
-        Verdict::Refused(_) => false,
-    }
+    pub(crate) answer: Result<(), Refusal>,
 }
 
 // Samples that passed their tests, from one LOAD rise to the next. Between them settings, display and key record stand still: at a
@@ -50,11 +40,11 @@ fn samples(n: usize, state: Counting, ss: &[u8]) -> Counting
     let mut next = state.chain;
     let mut tally = state.tally;
     let mut i = 0;
+    // each turn goes as far as the next rise, so no iterator counts it
     while i < ss.len() {
         let part = chain::play::to_next_rise(n, next, ss, i);
-        let after = part.chain;
         let before = next;
-        next = after;
+        next = part.chain;
         i = part.stop;
         if part.rose {
             tally = adds::rise(n, before, next, tally);
@@ -68,16 +58,15 @@ fn sample_line(n: usize, number: usize, state: Counting, ss: &[u8]) -> Took
     requires { n ≤ most }
     ensures { P.took_of result ≡ C.counted_line n number state (F.samples ss.now) }
 {
-    let tally = state.tally;
-    if !room::fits(tally, ss.len() as u64) {
+    if !room::fits(state.tally, ss.len() as u64) {
         return Took {
             state,
-            answer: Verdict::Refused(Refusal::Count(number as u64)),
+            answer: Err(Refusal::Count(number as u64)),
         };
     }
     Took {
         state: samples(n, state, ss),
-        answer: Verdict::Done,
+        answer: Ok(()),
     }
 }
 
@@ -87,25 +76,21 @@ fn scan_line(n: usize, number: usize, state: Counting, k: u8, bytes: [u8; 8]) ->
     requires k_lt_n { k < n }
     ensures { P.took_of result ≡ C.counted_line n number state (F.scan k bytes) }
 {
-    let chain = state.chain;
-    let tally = state.tally;
+    let Counting { chain, tally } = state;
     if !room::fits(tally, 1) {
         return Took {
             state,
-            answer: Verdict::Refused(Refusal::Count(number as u64)),
+            answer: Err(Refusal::Count(number as u64)),
         };
     }
     let place = k as usize;
     let scanned = chain::one::scan_chip(place, bytes, chain);
-    let after = scanned.chain;
-    let taken = scanned.taken;
-    let what = taken.recorded;
     Took {
         state: Counting {
-            chain: after,
-            tally: adds::scan(tally, place, what),
+            chain: scanned.chain,
+            tally: adds::scan(tally, place, scanned.taken.recorded),
         },
-        answer: Verdict::Done,
+        answer: Ok(()),
     }
 }
 
@@ -115,19 +100,16 @@ fn line(n: usize, number: usize, state: Counting, frame: Frame) -> Took
     requires count_bound { frame.count ≤ 33 }
     ensures { P.took_of result ≡ C.counted_line n number state (F.form_of n (held_by frame)) }
 {
-    let count = frame.count;
-    let bytes = frame.bytes;
-    let form = capture::frames::form_of(n, &bytes[..count]);
-    match form {
+    let Frame { bytes, count } = frame;
+    match capture::frames::form_of(n, &bytes[..count]) {
         Form::Other => Took {
             state,
-            answer: Verdict::Refused(Refusal::Line(number as u64)),
+            answer: Err(Refusal::Line(number as u64)),
         },
         Form::Samples => sample_line(n, number, state, &bytes[1..count]),
         Form::Scan => {
-            let eight = [
-                bytes[2], bytes[3], bytes[4], bytes[5], bytes[6], bytes[7], bytes[8], bytes[9],
-            ];
+            let mut eight = [0; 8];
+            eight.copy_from_slice(&bytes[2..10]);
             scan_line(n, number, state, bytes[1], eight)
         }
     }
@@ -142,28 +124,27 @@ fn lines(n: usize, state: Counting, text: &[u8], from: usize) -> Took
     let mut next = state;
     let mut number = 2;
     let mut place = from;
+    // each turn goes past a line's end, so no iterator counts it
     while place < text.len() {
         let end = lines::line_end(text, place);
         if end >= text.len() {
             return Took {
                 state: next,
-                answer: Verdict::Refused(Refusal::Line(number as u64)),
+                answer: Err(Refusal::Line(number as u64)),
             };
         }
         let frame = lines::frame_of(&text[place..end]);
         let took = line(n, number, next, frame);
-        let answer = took.answer;
-        if !is_taken(answer) {
+        if took.answer.is_err() {
             return took;
         }
-        let after = took.state;
-        next = after;
+        next = took.state;
         place = end + 1;
         number += 1;
     }
     Took {
         state: next,
-        answer: Verdict::Done,
+        answer: Ok(()),
     }
 }
 
@@ -171,40 +152,33 @@ fn lines(n: usize, state: Counting, text: &[u8], from: usize) -> Took
 fn with_chips(n: usize, tally: Tally) -> Tally
     ensures { result ≡ C.with_chips n tally }
 {
-    if tally.largest > n {
-        return tally;
-    }
-    let chips = tally.chips;
-    let codes = tally.codes;
     Tally {
-        chips,
-        codes,
-        largest: n,
+        largest: tally.largest.max(n),
+        ..tally
     }
 }
 
 // A text that isn't too long.
-pub(crate) fn whole(tally: Tally, text: &[u8]) -> Counted
+pub(crate) fn whole(tally: Tally, text: &[u8]) -> Handed<Tally, ()>
     requires { length text.now ≤ 65536 }
-    ensures { C.handed_tally result ≡ P.tally_of (C.counted_all tally (L.lines_of text.now)) }
+    ensures { handed result ≡ P.tally_of (C.counted_all tally (L.lines_of text.now)) }
 {
-    let n = capture::frames::chips_of(text);
-    if n == 0 {
-        return Counted {
-            tally,
-            answer: Verdict::Refused(Refusal::Line(1)),
+    let Some(n) = capture::frames::chips_of(text) else {
+        return Handed {
+            value: tally,
+            answer: Err(Refusal::Line(1)),
         };
-    }
+    };
     let end = lines::line_end(text, 0);
     let begun = chain::start(n);
-    let chain = begun.chain;
     let tally = with_chips(n, tally);
-    let took = lines(n, Counting { chain, tally }, text, end + 1);
-    let last = took.state;
-    let counted = last.tally;
-    let answer = took.answer;
-    Counted {
-        tally: counted,
-        answer,
+    let first = Counting {
+        chain: begun.value,
+        tally,
+    };
+    let took = lines(n, first, text, end + 1);
+    Handed {
+        value: took.state.tally,
+        answer: took.answer,
     }
 }

@@ -4,31 +4,23 @@
 
 ghost use Rattle.std.specs.Prelude.{◌≤◌};
 
-use base::Verdict;
+use base::Handed;
 use std::env::{Env, FillError};
 use std::fs::{File, OpenOptions};
 use std::io::{Read, Write};
 use std::rt::Files;
-use std::{io, mem, str};
-use tallies::{Counted, Tally};
+use std::{io, str};
+use tallies::Tally;
 
 // One byte more than the longest text.
 const ROOM: usize = 65537;
 
-// Whether a capture was taken to its end.
-fn is_taken(answer: Verdict) -> bool {
-    match answer {
-        Verdict::Done => true,
-        Verdict::Refused(_) => false,
-    }
-}
-
 // Opens the file of this name, which has to be UTF-8.
 fn open(rt: HostRuntime, name: &[u8]) -> io::Result<File> {
-    match str::from_utf8(name) {
-        Ok(path) => rt.open_file(OpenOptions::new().read(true), path),
-        Err(_) => Err(io::Error::from(io::ErrorKind::InvalidFilename)),
-    }
+    let Ok(path) = str::from_utf8(name) else {
+        return Err(io::Error::from(io::ErrorKind::InvalidFilename));
+    };
+    rt.open_file(OpenOptions::new().read(true), path)
 }
 
 // Tells why a file can't be opened, by the system's words alone: `NAME: No such file or directory`. What can't be told is left.
@@ -48,22 +40,17 @@ fn tell(rt: HostRuntime, name: &[u8], why: io::Error) {
 }
 
 // Reads until the text is full, the file ends or a read fails, and returns how many bytes came.
-fn fill(mut file: File, text: &mut [u8; ROOM]) -> usize
+fn fill(file: File, text: &mut [u8; ROOM]) -> usize
     ensures { result ≤ ROOM }
 {
     let mut rest = &mut text[..];
-    for _ in 0..ROOM {
-        let count = file.read(rest).unwrap_or(0);
-        if count == 0 {
-            break;
-        }
-        rest = &mut mem::take(&mut rest)[count..];
-    }
+    // what came before a read that failed is kept
+    let _ = io::copy(&mut file.take(ROOM as u64), &mut rest);
     ROOM.saturating_sub(rest.len())
 }
 
 // Counts the capture in the file of this name. One that can't be opened is told, and is an empty text.
-fn count_file(rt: HostRuntime, name: &[u8], tally: Tally) -> Counted {
+fn count_file(rt: HostRuntime, name: &[u8], tally: Tally) -> Handed<Tally, ()> {
     let mut text = [0u8; ROOM];
     let got = match open(rt, name) {
         Ok(file) => fill(file, &mut text),
@@ -76,11 +63,11 @@ fn count_file(rt: HostRuntime, name: &[u8], tally: Tally) -> Counted {
 }
 
 // Counts one capture after another, up to the first that is refused.
-fn count_files(rt: HostRuntime) -> Counted {
+fn count_files(rt: HostRuntime) -> Handed<Tally, ()> {
     let mut name = [0u8; 4096];
-    let mut last = Counted {
-        tally: tallies::fresh(),
-        answer: Verdict::Done,
+    let mut last = Handed {
+        value: tallies::fresh(),
+        answer: Ok(()),
     };
     for i in 1..usize::MAX {
         let length = match rt.arg(i, &mut name) {
@@ -88,8 +75,8 @@ fn count_files(rt: HostRuntime) -> Counted {
             Err(FillError::TooLong) => 0,
             Err(FillError::NotPresent) => break,
         };
-        last = count_file(rt, &name[..length], last.tally);
-        if !is_taken(last.answer) {
+        last = count_file(rt, &name[..length], last.value);
+        if last.answer.is_err() {
             let _ = rt.stderr().println(i);
             break;
         }
@@ -100,6 +87,6 @@ fn count_files(rt: HostRuntime) -> Counted {
 fn main(rt: HostRuntime) -> io::Result<()> {
     let mut out = [0u8; tallies::ROOM];
     let counted = count_files(rt);
-    let n = tallies::print(counted.tally, counted.answer, &mut out);
+    let n = tallies::print(counted.value, counted.answer, &mut out);
     Print::write_all(&rt, &out[..n])
 }

@@ -1,14 +1,13 @@
 -- The first line of a text: 40 01, the key's code, six digits, or refusal 10; and the whole, from it on.
 --     first_cut                     a text with no line that was ended has no first line of the form
---     other_count, by_nine          a frame that holds other than nine bytes, and one that holds nine
---     begins, no_first_lem, good_first  what nine bytes give
+--     frame_says                    the first line says what its frame holds
 --     long_out_lem, none_out            a text too long, and one whose first line is refused
 --     Comes                         a text's output and its end
 --     replays_so, replays_counts    the output put at the front is what is promised; the answer counts its bytes
 --     begun_more, begun_out         a panel at power-on: the first line was ended, and the lines after it
 -- Assumes nothing.
 use mathlib.Core.Path.{◌≡◌, refl, ap, sym, subst, ◌∙◌}
-use mathlib.Core.Bool.{Bool, true, false, true≢false, ◌&&◌}
+use mathlib.Core.Bool.{◌&&◌}
 use mathlib.Core.List.{List, [], ◌∷◌}
 use Prim.Native.Nat.{ℕ, ◌+◌, ◌≤◌, ◌<◌}
 use native.Mathlib.Omega.{arith}
@@ -16,7 +15,6 @@ use borrow.Author.Tests.{le-leb, lt-leb, ne_eqb}
 use lib.Dec.{eqb, leb}
 use lib.ListN.{length, get_or, take, drop}
 use Rattle.base.specs.Lent.{laid, Counts}
-use Rattle.base.specs.Pick.{pick}
 use Rattle.base.specs.Refusals.{Told, done, refused}
 use Rattle.base.proofs.Lent.{laid_counts}
 use Rattle.base.proofs.Picks.{pick_yes, pick_no, pick_cases}
@@ -25,23 +23,23 @@ use Rattle.capture.specs.declared.Replayed.{Replayed}
 use Rattle.capture.specs.Parts.{Ends}
 use Rattle.capture.specs.Reports.{refusal_line}
 use Rattle.capture.proofs.EachLine.{held_same}
-use Rattle.capture.proofs.Read.{next_of, front_so}
 use Rattle.ch450.specs.declared.Panel.{Panel}
 use Rattle.ch450.specs.Panel.{power_on}
 use Rattle.lines.specs.declared.Frame.{Frame}
 use Rattle.lines.specs.Answers.{line_length, held_in, frame_for, held_by}
 use Rattle.lines.specs.Lines.{Line, ended, lines_of, bytes_in}
-use Rattle.lines.proofs.Frames.{Holds, frame_holds}
+use Rattle.lines.proofs.Frames.{frame_holds}
 use Rattle.lines.proofs.Lines.{lines_next, lines_last}
 use Rattle.wires.specs.declared.Report.{Report}
 use Rattle.wires.specs.declared.frames.First.{First}
 use Rattle.wires.specs.Frames.{Begin, first_of}
-use Rattle.wires.specs.Parts.{first_in, no_first, first_by}
+use Rattle.wires.specs.Parts.{first_in, first_by}
 use Rattle.wires.specs.Replay.{lines_out, after_first, all_out, output_of, lines_end, first_end, all_end, end_of, Replays}
+use Rattle.std.specs.declared.option.Option.TheVariants.{Some, None}
 
 -- ---- its bytes
 
-pub first_cut : (text : List ℕ) → length text ≤ line_length text → first_by (first_in (lines_of text)) ≡ no_first
+pub first_cut : (text : List ℕ) → length text ≤ line_length text → first_by (first_in (lines_of text)) ≡ None
 unfolding lines_of first_of
 first_cut [] h = refl
 first_cut (ch ∷ text) h = ap (λ ls. first_by (first_in ls)) (lines_last (ch ∷ text) (omega arith) h)
@@ -55,48 +53,14 @@ not_nine bytes ne =
 first_held : (chars : List ℕ) → first_of (held_in chars) ≡ first_of (bytes_in (ended chars))
 first_held = held_same first_of (λ bytes h. not_nine bytes (λ e. absurd (omega arith)) ∙ sym (not_nine [] (λ e. absurd (omega arith))))
 
--- what nine bytes give, and their test
-abbrev pub begins : List ℕ → Begin
-begins fb =
-    record {
-      key = get_or fb 2 0;
-      digits = get_or fb 3 0 ∷ get_or fb 4 0 ∷ get_or fb 5 0 ∷ get_or fb 6 0 ∷ get_or fb 7 0 ∷ get_or fb 8 0 ∷ [];
-    }
-
-abbrev pub test : List ℕ → Bool
-test fb = eqb (get_or fb 0 0) 0x40 && eqb (get_or fb 1 0) 0x01 && leb (get_or fb 2 0) 127
-
-nine_so : (fb : List ℕ) → 9 ≤ length fb → first_of (take 9 fb) ≡ pick (test fb) (done (begins fb)) (refused 10 0)
-unfolding first_of next_of
-nine_so fb h = ap first_of (front_so fb 9 h)
-
 -- ---- by what its frame holds
 
-module _ (text : List ℕ) (end : ℕ) (here : end ≡ 0 + line_length text) (more : end < length text) (f : Frame)
-    (reads : f ≡ frame_for (held_in (take end text))) (size : length f.bytes ≡ 33) where
-  holds : Holds f (held_in (take end text))
-  holds = frame_holds (take end text) reads
-
-  -- the first line says what the frame says
-  frame_says : first_in (lines_of text) ≡ first_of (held_by f)
-  frame_says =
-      let there : line_length text ≡ end = omega arith in
-      ap first_in (lines_next text (omega arith)) ∙ sym (first_held (take (line_length text) text))
-      ∙ ap first_of (ap (λ m. held_in (take m text)) there ∙ sym holds.front)
-
-  pub other_count : (f.count ≡ 9 → ⊥) → no_first ≡ first_by (first_in (lines_of text))
-  other_count ne =
-      sym (ap first_by (frame_says ∙ not_nine (held_by f) (λ e. ne (holds.count ∙ ap length (sym holds.front) ∙ e))))
-
-  pub by_nine : f.count ≡ 9 → first_by (first_in (lines_of text)) ≡ first_by (pick (test f.bytes) (done (begins f.bytes)) (refused 10 0))
-  by_nine e = ap first_by (frame_says ∙ ap (λ m. first_of (take m f.bytes)) e ∙ nine_so f.bytes (omega arith))
-
-module _ (fb : List ℕ) {first : First} (nine : first ≡ first_by (pick (test fb) (done (begins fb)) (refused 10 0))) where
-  pub no_first_lem : test fb ≡ false → no_first ≡ first
-  no_first_lem e = sym (nine ∙ ap first_by (pick_no _ _ e))
-
-  pub good_first : test fb ≡ true → first_by (done (begins fb)) ≡ first
-  good_first e = sym (nine ∙ ap first_by (pick_yes _ _ e))
+pub frame_says : (text : List ℕ) (end : ℕ) → end ≡ 0 + line_length text → end < length text → (f : Frame) → f ≡ frame_for (held_in (take end text))
+    → first_in (lines_of text) ≡ first_of (held_by f)
+frame_says text end here more f reads =
+    let there : line_length text ≡ end = omega arith in
+    ap first_in (lines_next text (omega arith)) ∙ sym (first_held (take (line_length text) text))
+    ∙ ap first_of (ap (λ m. held_in (take m text)) there ∙ sym (frame_holds (take end text) reads).front)
 
 -- ---- what follows from it
 
@@ -111,13 +75,13 @@ first_ten bytes =
     pick_cases Ten (eqb (length bytes) 9 && eqb (get_or bytes 0 0) 0x40 && eqb (get_or bytes 1 0) 0x01 && leb (get_or bytes 2 0) 127)
     {x = done (record { key = get_or bytes 2 0; digits = drop 3 bytes })} {y = refused 10 0} (λ _. tt) (λ _. refl)
 
-none_after : (what : Report) (t : Told Begin) (ls : List Line) → Ten t → (first_by t).good ≡ false
+none_after : (what : Report) (t : Told Begin) (ls : List Line) → Ten t → first_by t ≡ None
     → (after_first what t ls ≡ refusal_line 10 1) × (first_end t ls ≡ refused 10 1)
 unfolding Ten
-none_after what (done b) ls c e = let z : ◌≡◌ {A = Bool} true false = e in absurd (true≢false z)
+none_after what (done b) ls c e = absurd (cc)
 none_after what (refused number place) ls c e = (ap (λ m. refusal_line m 1) c, ap (λ m. refused m 1) c)
 
-none_refused : (what : Report) (ls : List Line) → (first_by (first_in ls)).good ≡ false → (all_out what ls ≡ refusal_line 10 1) × (all_end ls ≡ refused 10 1)
+none_refused : (what : Report) (ls : List Line) → first_by (first_in ls) ≡ None → (all_out what ls ≡ refusal_line 10 1) × (all_end ls ≡ refused 10 1)
 none_refused what [] e = (refl, refl)
 none_refused what (l ∷ ls) e = none_after what (first_of (bytes_in l)) ls (first_ten (bytes_in l)) e
 
@@ -138,10 +102,10 @@ short_out : (what : Report) (text : List ℕ) {piece : List ℕ} {end : Told (Un
 unfolding output_of end_of
 short_out what text h p e = let short = le-leb (length text) 65536 h in (pick_yes _ _ short ∙ p, pick_yes _ _ short ∙ e)
 
-pub none_out : (what : Report) (text : List ℕ) (first : First) → length text ≤ 65536 → first ≡ first_by (first_in (lines_of text)) → first.good ≡ false
+pub none_out : (what : Report) (text : List ℕ) → length text ≤ 65536 → first_by (first_in (lines_of text)) ≡ None
     → Comes what text (refusal_line 10 1) (refused 10 1)
-none_out what text first h same e =
-    let none = none_refused what (lines_of text) (ap (λ (f : First). f.good) (sym same) ∙ e) in short_out what text h none.0 none.1
+none_out what text h e =
+    let none = none_refused what (lines_of text) e in short_out what text h none.0 none.1
 
 -- the output put at the front is what is promised
 pub replays_so : {what : Report} {text : List ℕ} (piece : List ℕ) {end : Told (Unit {0})} {out : List ℕ} {r : Replayed} {out' : List ℕ}
@@ -165,15 +129,14 @@ replays_counts {what} {text} {out} {r} {out'} fits p =
 
 -- ---- a panel at power-on, and the lines after the first
 
-module _ (text : List ℕ) (end : ℕ) (first : First) (here : end ≡ 0 + line_length text) (same : first ≡ first_by (first_in (lines_of text)))
-    (good : first.good ≡ true) where
+module _ (text : List ℕ) (end : ℕ) (first : First) (here : end ≡ 0 + line_length text) (same : Some first ≡ first_by (first_in (lines_of text))) where
   there : line_length text ≡ end
   there = omega arith
 
   pub begun_more : end < length text
   begun_more =
       by_order (length text) (line_length text)
-      (λ h. absurd (true≢false (sym good ∙ ap (λ (f : First). f.good) (same ∙ first_cut text h))))
+      (λ h. let none : Some first ≡ None = same ∙ first_cut text h in absurd (cc))
       (λ h. omega arith)
 
   begun_lines : lines_of text ≡ ended (take end text) ∷ lines_of (drop (end + 1) text)
@@ -185,9 +148,9 @@ module _ (text : List ℕ) (end : ℕ) (first : First) (here : end ≡ 0 + line_
   begun_first : first_of (bytes_in (ended (take end text))) ≡ done (record { key = first.key; digits = first.digits })
   begun_first = go (first_of (bytes_in (ended (take end text)))) (same ∙ ap (λ ls. first_by (first_in ls)) begun_lines)
     where
-      go : (t : Told Begin) → first ≡ first_by t → t ≡ done (record { key = first.key; digits = first.digits })
-      go (done b) e = ap (λ (f : First). done (record { key = f.key; digits = f.digits })) (sym e)
-      go (refused number place) e = absurd (true≢false (sym good ∙ ap (λ (f : First). f.good) e))
+      go : (t : Told Begin) → Some first ≡ first_by t → t ≡ done (record { key = first.key; digits = first.digits })
+      go (done b) e = let f : first ≡ record { key = b.key; digits = b.digits } = cc in ap (λ (x : First). done (record { key = x.key; digits = x.digits })) (sym f)
+      go (refused number place) e = absurd (cc)
 
   pub begun_out : (what : Report) (p : Panel) → p ≡ power_on first.digits → length text ≤ 65536
       → Comes what text (lines_out what first.key 2 p (lines_of (drop (end + 1) text))) (lines_end 2 (lines_of (drop (end + 1) text)))

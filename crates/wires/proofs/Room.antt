@@ -23,8 +23,6 @@ use Rattle.capture.proofs.Reported.{refusal_length}
 use Rattle.capture.proofs.Room.{bytes_room, chars_more}
 use Rattle.ch450.specs.declared.Panel.{Panel}
 use Rattle.ch450.specs.declared.Wires.{Wires}
-use Rattle.ch450.specs.declared.commands.Meaning.{Meaning}
-use Rattle.ch450.specs.declared.commands.Meaning.TheVariants as Meanings
 use Rattle.ch450.specs.Commands.{told_at, is_read}
 use Rattle.ch450.specs.Edges.{starts, stops, takes, begun, at_rest, taken as taken_bit, seen, stepped, completes, first_byte, second_byte}
 use Rattle.ch450.specs.Panel.{lit_of, power_on}
@@ -39,6 +37,9 @@ use Rattle.wires.specs.Frames.{Begin, Form, is_samples, form_of, first_of}
 use Rattle.wires.specs.Reports.{command_lines, screen_line, obeyed_lines}
 use Rattle.wires.specs.Replay.{at_sample, written_by, taken, lines_out, after_first, all_out, output_of}
 use Rattle.wires.proofs.Walked.{samples_long, takes_line}
+use Rattle.std.specs.declared.option.Option.{Option}
+use Rattle.std.specs.declared.option.Option.TheVariants.{Some, None}
+use Rattle.ch450.specs.declared.Command.{Command}
 
 -- ---- one command
 
@@ -58,12 +59,12 @@ command_length key first second read =
     code : length (pick read (line_for (0x43 ∷ key ∷ [])) []) ≤ 5
     code = pick_cases (λ piece. length piece ≤ 5) read {x = line_for (0x43 ∷ key ∷ [])} {y = []} (λ _. omega (arith, line_for_length (0x43 ∷ key ∷ []))) (λ _. omega arith)
 
-pub obeyed_room : (what : Report) (key first second : ℕ) (told : Meaning) (p : Panel) → length p.digits ≡ 6
+pub obeyed_room : (what : Report) (key first second : ℕ) (told : Option Command) (p : Panel) → length p.digits ≡ 6
     → length (obeyed_lines what key first second told p) ≤ 15
-obeyed_room what key first second Meanings.Nothing p six = omega arith
-obeyed_room Commands key first second (Meanings.Means command) p six =
-    omega (arith, command_length key first second (is_read (Meanings.Means command)))
-obeyed_room Screen key first second (Meanings.Means command) p six = omega (arith, screen_length p six)
+obeyed_room what key first second None p six = omega arith
+obeyed_room Commands key first second (Some command) p six =
+    omega (arith, command_length key first second (is_read (Some command)))
+obeyed_room Screen key first second (Some command) p six = omega (arith, screen_length p six)
 
 -- ---- one sample
 

@@ -13,7 +13,6 @@ use lib.ListN.{length, get_or, drop, drop_of_length-le}
 use Rattle.base.proofs.Lent.{Fills, fills_start, fills_more, fills_room, fills_over}
 use Rattle.base.proofs.Lists.{rest_is}
 use Rattle.ch450.specs.declared.Panel.{Panel}
-use Rattle.ch450.specs.declared.commands.Meaning.{Meaning}
 use Rattle.ch450.specs.declared.play.Stretch.{Stretch}
 use Rattle.ch450.specs.Edges.{first_byte, second_byte}
 use Rattle.ch450.specs.Samples.{stepped_panel, played}
@@ -26,6 +25,8 @@ use Rattle.wires.specs.Frames.{samples}
 use Rattle.wires.specs.Parts.{Takes}
 use Rattle.wires.specs.Reports.{obeyed_lines, transfer_lines}
 use Rattle.wires.specs.Replay.{at_sample, written_by, taken}
+use Rattle.std.specs.declared.option.Option.{Option}
+use Rattle.ch450.specs.declared.Command.{Command}
 
 -- ---- what a stretch writes
 
@@ -35,7 +36,7 @@ module _ (what : Report) (key : ℕ) (ss : List ℕ) where
   writes t = transfer_lines what key t.transfer t.panel ++ written_by what key (drop t.stop ss) t.panel
 
   -- what a sample writes, told so much, and what the samples after it write
-  abbrev told_writes : ℕ → Panel → Meaning → List ℕ
+  abbrev told_writes : ℕ → Panel → (Option Command) → List ℕ
   told_writes i p m =
       let next = stepped_panel (get_or ss i 0) p in
       obeyed_lines what key (first_byte p.wires) (second_byte p.wires) m next ++ written_by what key (drop (i + 1) ss) next

@@ -6,7 +6,7 @@ use mathlib.Core.Path.{◌≡◌}
 use mathlib.Core.List.{List}
 use Prim.Native.Nat.{ℕ}
 use Rattle.base.specs.Unique.{AllowsOne}
-use Rattle.base.proofs.Unique.{same_answer, same_verdict}
+use Rattle.base.proofs.Unique.{same_answer, same_result}
 use Rattle.capture.specs.declared.Replayed.{Replayed}
 use Rattle.wires.specs.declared.Report.{Report}
 use Rattle.wires.specs.declared.Report.TheVariants.{Commands, Screen}
@@ -18,7 +18,7 @@ use Rattle.wires.proofs.screen
 same_replayed : (what : Report) {text out out' out'' : List ℕ} {r s : Replayed} → Replays what text out r out' → Replays what text out s out'' → r ≡ s
 same_replayed what {r = r} {s = s} p q =
     let count = same_answer p.count q.count in
-    let answer = same_verdict {v = r.answer} {w = s.answer} (same_answer p.answer q.answer) in
+    let answer = same_result {r = r.answer} {s = s.answer} (same_answer p.answer q.answer) in
     λ i. record { bytes = count i; answer = answer i }
 
 pub replay_unique : AllowsOne replay.Kinds.ps replay.Kinds.r replay.Reads.Learnt

@@ -1,10 +1,10 @@
 -- What the walk's own functions promise to one another. No entry's promise cites these.
 -- Assumes nothing.
-use Rattle.std.specs.Prelude.{◌≡◌, ℕ, true, false, List, [], ◌∷◌}
+use Rattle.std.specs.Prelude.{◌≡◌, ℕ, List, [], ◌∷◌, Some, None}
+use Rattle.std.specs.declared.option.Option.{Option}
 use Rattle.base.specs.Refusals.{Told, done, refused, Outcome}
 use Rattle.capture.specs.Parts as C
 use Rattle.ch450.specs.declared.Panel.{Panel}
-use Rattle.ch450.specs.Panel.{dark}
 use Rattle.lines.specs.Answers.{Puts}
 use Rattle.lines.specs.Lines.{Line, bytes_in}
 use Rattle.wires.specs.declared.frames.First.{First}
@@ -16,14 +16,10 @@ abbrev pub first_in : List Line → Told Begin
 first_in [] = refused 10 0
 first_in (l ∷ ls) = first_of (bytes_in l)
 
--- no first line of the form
-abbrev pub no_first : First
-no_first = record { good = false; key = 0; digits = dark }
-
--- what `first_of` answers
-abbrev pub first_by : Told Begin → First
-first_by (done b) = record { good = true; key = b.key; digits = b.digits }
-first_by (refused number place) = no_first
+-- what `first_of` answers: none, where there is no first line of the form
+abbrev pub first_by : Told Begin → Option First
+first_by (done b) = Some (record { key = b.key; digits = b.digits })
+first_by (refused number place) = None
 
 -- a line's outcome: the panel, whether it was taken, and what it wrote
 pub record Takes (o : Outcome Panel (List ℕ)) (at : ℕ) (out : List ℕ) (r : Took) (out' : List ℕ) : Type 0 where

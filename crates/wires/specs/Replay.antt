@@ -3,7 +3,7 @@
 use Rattle.std.specs.Prelude.{◌≡◌, ℕ, suc, List, [], ◌∷◌, ◌++◌, leb, length}
 use Rattle.base.specs.Lent.{laid}
 use Rattle.base.specs.Pick.{pick}
-use Rattle.base.specs.Refusals.{Told, done, refused, Outcome, hands_back, verdict_tells}
+use Rattle.base.specs.Refusals.{Told, done, refused, Outcome, hands_back, tells}
 use Rattle.capture.specs.declared.Replayed.{Replayed}
 use Rattle.capture.specs.Reports.{refusal_line}
 use Rattle.capture.specs.Replay.{and_then}
@@ -86,6 +86,6 @@ end_of text = pick (leb (length text) 65536) (all_end (lines_of text)) (refused 
 -- what `replay` and `screen` do: the output stands at the front of the lent array, the rest is as it was, and the answer is how
 -- many bytes it has and how the text ended
 pub record Replays (what : Report) (text out : List ℕ) (r : Replayed) (out' : List ℕ) : Type 0 where
-  pub answer : verdict_tells r.answer ≡ end_of text
+  pub answer : tells r.answer ≡ end_of text
   pub count : r.bytes ≡ length (output_of what text)
   pub bytes : out' ≡ laid (output_of what text) out

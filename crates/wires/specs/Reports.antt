@@ -4,15 +4,15 @@
 use Rattle.std.specs.Prelude.{ℕ, Bool, List, [], ◌∷◌, ◌++◌}
 use Rattle.base.specs.Pick.{pick}
 use Rattle.ch450.specs.declared.Panel.{Panel}
-use Rattle.ch450.specs.declared.commands.Meaning.{Meaning}
-use Rattle.ch450.specs.declared.commands.Meaning.TheVariants as Meanings
 use Rattle.ch450.specs.declared.play.Transfer.{Transfer}
-use Rattle.ch450.specs.declared.play.Transfer.TheVariants as Transfers
 use Rattle.ch450.specs.Commands.{meaning_of, is_read}
 use Rattle.ch450.specs.Panel.{lit_of}
 use Rattle.lines.specs.Lines.{line_for}
 use Rattle.wires.specs.declared.Report.{Report}
 use Rattle.wires.specs.declared.Report.TheVariants.{Commands, Screen}
+use Rattle.std.specs.declared.option.Option.{Option}
+use Rattle.std.specs.declared.option.Option.TheVariants.{Some, None}
+use Rattle.ch450.specs.declared.Command.{Command}
 
 -- the segments lit: 44, six bytes, DIG2 first
 abbrev pub screen_line : Panel → List ℕ
@@ -24,13 +24,13 @@ command_lines key first second read =
     line_for (0x42 ∷ first ∷ second ∷ []) ++ pick read (line_for (0x43 ∷ key ∷ [])) []
 
 -- of an obeyed command, given the panel after it; an unknown byte 1 is none
-abbrev pub obeyed_lines : Report → ℕ → ℕ → ℕ → Meaning → Panel → List ℕ
-obeyed_lines what key first second Meanings.Nothing p = []
-obeyed_lines Commands key first second (Meanings.Means command) p =
-    command_lines key first second (is_read (Meanings.Means command))
-obeyed_lines Screen key first second (Meanings.Means command) p = screen_line p
+abbrev pub obeyed_lines : Report → ℕ → ℕ → ℕ → (Option Command) → Panel → List ℕ
+obeyed_lines what key first second None p = []
+obeyed_lines Commands key first second (Some command) p =
+    command_lines key first second (is_read (Some command))
+obeyed_lines Screen key first second (Some command) p = screen_line p
 
 -- of a transfer that a stop completed
-abbrev pub transfer_lines : Report → ℕ → Transfer → Panel → List ℕ
-transfer_lines what key Transfers.Nothing p = []
-transfer_lines what key (Transfers.Bytes first second) p = obeyed_lines what key first second (meaning_of first second) p
+abbrev pub transfer_lines : Report → ℕ → Option Transfer → Panel → List ℕ
+transfer_lines what key None p = []
+transfer_lines what key (Some t) p = obeyed_lines what key t.first t.second (meaning_of t.first t.second) p

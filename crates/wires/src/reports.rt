@@ -4,17 +4,16 @@ ghost use Rattle.lines.specs.Answers as P;
 ghost use Rattle.wires.specs.Reports as R;
 
 use crate::Report;
-use ch450::Panel;
-use ch450::commands::Meaning;
 use ch450::play::Transfer;
+use ch450::{Command, Panel};
 
 // The segments lit: 44, six bytes.
 fn screen_line(panel: Panel, out: &mut [u8], at: usize) -> usize
     requires { at + 15 ≤ length out.old }
     ensures { P.Puts (R.screen_line panel) at out.old result out.new }
 {
-    let lit = ch450::shining(panel);
-    let bytes = [0x44, lit[0], lit[1], lit[2], lit[3], lit[4], lit[5]];
+    let mut bytes = [0x44, 0, 0, 0, 0, 0, 0];
+    bytes[1..].copy_from_slice(&ch450::shining(panel));
     lines::put_line(&bytes, out, at)
 }
 
@@ -38,7 +37,7 @@ fn obeyed(
     key: u8,
     first: u8,
     second: u8,
-    meaning: Meaning,
+    meaning: Option<Command>,
     panel: Panel,
     out: &mut [u8],
     at: usize,
@@ -47,8 +46,8 @@ fn obeyed(
     ensures { P.Puts (R.obeyed_lines what key first second meaning panel) at out.old result out.new }
 {
     match meaning {
-        Meaning::Nothing => at,
-        Meaning::Means(_) => match what {
+        None => at,
+        Some(_) => match what {
             Report::Commands => {
                 let read = ch450::commands::is_read(meaning);
                 command_lines(key, first, second, read, out, at)
@@ -62,7 +61,7 @@ fn obeyed(
 pub(crate) fn transfer(
     what: Report,
     key: u8,
-    transfer: Transfer,
+    transfer: Option<Transfer>,
     panel: Panel,
     out: &mut [u8],
     at: usize,
@@ -70,11 +69,9 @@ pub(crate) fn transfer(
     requires { at + length (R.transfer_lines what key transfer panel) ≤ length out.old }
     ensures { P.Puts (R.transfer_lines what key transfer panel) at out.old result out.new }
 {
-    match transfer {
-        Transfer::Nothing => at,
-        Transfer::Bytes { first, second } => {
-            let meaning = ch450::commands::meaning_of(first, second);
-            obeyed(what, key, first, second, meaning, panel, out, at)
-        }
-    }
+    let Some(Transfer { first, second }) = transfer else {
+        return at;
+    };
+    let meaning = ch450::commands::meaning_of(first, second);
+    obeyed(what, key, first, second, meaning, panel, out, at)
 }

@@ -10,12 +10,13 @@ ghost use Rattle.wires.specs.Parts as P;
 ghost use Rattle.wires.specs.Replay as R;
 
 use crate::{Report, frames, reports};
-use base::{Refusal, Verdict};
+use base::Refusal;
 use capture::Replayed;
 use ch450::Panel;
 use lines::Frame;
 
 // A line: the panel after it, whether it was taken, and the place past what it wrote.
+// Panel and place are told of a line that isn't taken too (specs/Parts `Takes`), so the flag stands beside them.
 #[derive(Clone, Copy)]
 pub(crate) struct Took {
     pub(crate) panel: Panel,
@@ -31,13 +32,12 @@ fn samples(what: Report, key: u8, panel: Panel, ss: &[u8], out: &mut [u8], at: u
     let mut next = panel;
     let mut end = at;
     let mut i = 0;
+    // each turn goes as far as the next transfer, so no iterator counts it
     while i < ss.len() {
         let part = ch450::play::to_next_transfer(next, ss, i);
-        let after = part.panel;
-        let transfer = part.transfer;
-        next = after;
+        next = part.panel;
         i = part.stop;
-        end = reports::transfer(what, key, transfer, next, out, end);
+        end = reports::transfer(what, key, part.transfer, next, out, end);
     }
     Took {
         panel: next,
@@ -52,8 +52,7 @@ fn line(what: Report, key: u8, panel: Panel, frame: Frame, out: &mut [u8], at: u
     requires frame_in_bounds { at + length (out_of (R.taken what key panel (F.form_of (held_by frame))).told) ≤ length out.old }
     ensures { P.Takes (R.taken what key panel (F.form_of (held_by frame))) at out.old result out.new }
 {
-    let count = frame.count;
-    let bytes = frame.bytes;
+    let Frame { bytes, count } = frame;
     if !frames::is_samples(&bytes[..count]) {
         return Took {
             panel,
@@ -71,7 +70,7 @@ fn wrong_line(number: usize, out: &mut [u8], at: usize) -> Replayed
 {
     Replayed {
         bytes: capture::put::refusal(Refusal::Line(number as u64), out, at),
-        answer: Verdict::Refused(Refusal::Line(number as u64)),
+        answer: Err(Refusal::Line(number as u64)),
     }
 }
 
@@ -85,6 +84,7 @@ fn lines(what: Report, key: u8, panel: Panel, text: &[u8], from: usize, out: &mu
     let mut number = 2;
     let mut at = 0;
     let mut place = from;
+    // each turn goes past a line's end, so no iterator counts it
     while place < text.len() {
         let end = lines::line_end(text, place);
         if end >= text.len() {
@@ -95,15 +95,14 @@ fn lines(what: Report, key: u8, panel: Panel, text: &[u8], from: usize, out: &mu
         if !took.taken {
             return wrong_line(number, out, at);
         }
-        let after = took.panel;
-        next = after;
+        next = took.panel;
         at = took.at;
         place = end + 1;
         number += 1;
     }
     Replayed {
         bytes: at,
-        answer: Verdict::Done,
+        answer: Ok(()),
     }
 }
 
@@ -115,15 +114,13 @@ pub(crate) fn whole(what: Report, text: &[u8], out: &mut [u8]) -> Replayed
     if text.len() > capture::LONGEST {
         return Replayed {
             bytes: capture::put::refusal(Refusal::Text, out, 0),
-            answer: Verdict::Refused(Refusal::Text),
+            answer: Err(Refusal::Text),
         };
     }
-    let first = frames::first_of(text);
-    if !first.good {
+    let Some(first) = frames::first_of(text) else {
         return wrong_line(1, out, 0);
-    }
+    };
     let end = lines::line_end(text, 0);
-    let digits = first.digits;
-    let panel = ch450::power_on(digits);
+    let panel = ch450::power_on(first.digits);
     lines(what, first.key, panel, text, end + 1, out)
 }

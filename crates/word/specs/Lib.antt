@@ -1,4 +1,3 @@
 pub mod Ranges
 pub mod Words
-pub mod Answers
 pub mod Cases

@@ -5,9 +5,8 @@
 
 ghost use Rattle.std.specs.Prelude.{◌≡◌, ◌+◌, ◌/◌, ◌≤◌, leb};
 ghost use Rattle.base.specs.Pick.{pick};
-ghost use Rattle.base.specs.Refusals.{done, refused};
+ghost use Rattle.base.specs.Refusals.{done, refused, tells};
 ghost use Rattle.word.specs.Words.{decoded_of, encoded_of, word_of, legal};
-ghost use Rattle.word.specs.Answers.{decoded_tells, encoded_tells};
 
 use base::Refusal;
 
@@ -60,36 +59,24 @@ pub enum Command {
     LoadDigit { digit: u8, byte: u8 },
 }
 
-#[derive(Clone, Copy)]
-pub enum Decoded {
-    Means(Command),
-    Refused(Refusal),
-}
-
-#[derive(Clone, Copy)]
-pub enum Encoded {
-    Word(u16),
-    Refused(Refusal),
-}
-
 // The command that a word means, or refusal 6.
-pub fn decode(word: u16) -> Decoded
-    ensures { decoded_tells result ≡ decoded_of word }
+pub fn decode(word: u16) -> Result<Command, Refusal>
+    ensures { tells result ≡ decoded_of word }
 {
     if word > 4095 {
-        return Decoded::Refused(Refusal::Unlisted(0));
+        return Err(Refusal::Unlisted(0));
     }
     let kind = base::field(word, 8, 4);
     match kind {
-        0b0000 => Decoded::Means(Command::NoOperation),
+        0b0000 => Ok(Command::NoOperation),
         0b0001 => bar_or_segment(word),
         0b0010 => reset_or_sleep(word),
         0b0011 => move_or_custom(word),
         0b0100 => system_of(word),
         0b0101 => display_of(word),
-        0b0110 => Decoded::Means(Command::BlinkByte(base::field(word, 0, 8) as u8)),
-        0b0111 => Decoded::Means(Command::ReadKey),
-        _ => Decoded::Means(Command::LoadDigit {
+        0b0110 => Ok(Command::BlinkByte(base::field(word, 0, 8) as u8)),
+        0b0111 => Ok(Command::ReadKey),
+        _ => Ok(Command::LoadDigit {
             digit: base::field(word, 8, 3) as u8,
             byte: base::field(word, 0, 8) as u8,
         }),
@@ -97,62 +84,59 @@ pub fn decode(word: u16) -> Decoded
 }
 
 // 00010 LEVEL(7), 000110 ADDR(6), 000111 ADDR(6)
-fn bar_or_segment(word: u16) -> Decoded
+fn bar_or_segment(word: u16) -> Result<Command, Refusal>
     requires { word / 256 ≡ 0b0001 }
-    ensures { decoded_tells result ≡ decoded_of word }
+    ensures { tells result ≡ decoded_of word }
 {
     if base::field(word, 7, 1) == 0 {
-        return Decoded::Means(Command::BarLevel(base::field(word, 0, 7) as u8));
+        return Ok(Command::BarLevel(base::field(word, 0, 7) as u8));
     }
     let addr = base::field(word, 0, 6) as u8;
     if base::field(word, 6, 1) == 0 {
-        Decoded::Means(Command::SegmentClear(addr))
+        Ok(Command::SegmentClear(addr))
     } else {
-        Decoded::Means(Command::SegmentSet(addr))
+        Ok(Command::SegmentSet(addr))
     }
 }
 
 // 001000000001, 001000000010
-fn reset_or_sleep(word: u16) -> Decoded
+fn reset_or_sleep(word: u16) -> Result<Command, Refusal>
     requires { word / 256 ≡ 0b0010 }
-    ensures { decoded_tells result ≡ decoded_of word }
+    ensures { tells result ≡ decoded_of word }
 {
     match word {
-        0b001000000001 => Decoded::Means(Command::Reset),
-        0b001000000010 => Decoded::Means(Command::Sleep),
-        _ => Decoded::Refused(Refusal::Unlisted(0)),
+        0b001000000001 => Ok(Command::Reset),
+        0b001000000010 => Ok(Command::Sleep),
+        _ => Err(Refusal::Unlisted(0)),
     }
 }
 
 // 001100000000, ..10, ..01, ..11, 00111 CUSTOM(7)
-fn move_or_custom(word: u16) -> Decoded
+fn move_or_custom(word: u16) -> Result<Command, Refusal>
     requires { word / 256 ≡ 0b0011 }
-    ensures { decoded_tells result ≡ decoded_of word }
+    ensures { tells result ≡ decoded_of word }
 {
     if base::field(word, 7, 1) == 1 {
-        return Decoded::Means(Command::CustomCharacter(base::field(word, 0, 7) as u8));
+        return Ok(Command::CustomCharacter(base::field(word, 0, 7) as u8));
     }
     match word {
-        0b001100000000 => Decoded::Means(Command::ShiftLeft),
-        0b001100000010 => Decoded::Means(Command::ShiftRight),
-        0b001100000001 => Decoded::Means(Command::RotateLeft),
-        0b001100000011 => Decoded::Means(Command::RotateRight),
-        _ => Decoded::Refused(Refusal::Unlisted(0)),
+        0b001100000000 => Ok(Command::ShiftLeft),
+        0b001100000010 => Ok(Command::ShiftRight),
+        0b001100000001 => Ok(Command::RotateLeft),
+        0b001100000011 => Ok(Command::RotateRight),
+        _ => Err(Refusal::Unlisted(0)),
     }
 }
 
 // 010000 INTM SSPD DPLR 0 KEYB DISP
-fn system_of(word: u16) -> Decoded
+fn system_of(word: u16) -> Result<Command, Refusal>
     requires { word / 256 ≡ 0b0100 }
-    ensures { decoded_tells result ≡ decoded_of word }
+    ensures { tells result ≡ decoded_of word }
 {
-    if base::field(word, 6, 2) != 0 {
-        return Decoded::Refused(Refusal::Unlisted(0));
+    if base::field(word, 6, 2) != 0 || base::field(word, 2, 1) != 0 {
+        return Err(Refusal::Unlisted(0));
     }
-    if base::field(word, 2, 1) != 0 {
-        return Decoded::Refused(Refusal::Unlisted(0));
-    }
-    Decoded::Means(Command::SystemParameters(System {
+    Ok(Command::SystemParameters(System {
         intm: base::field(word, 5, 1) == 1,
         sspd: base::field(word, 4, 1) == 1,
         dplr: base::field(word, 3, 1) == 1,
@@ -162,54 +146,56 @@ fn system_of(word: u16) -> Decoded
 }
 
 // 0101 MODE LIMIT(3) 0000
-fn display_of(word: u16) -> Decoded
+fn display_of(word: u16) -> Result<Command, Refusal>
     requires { word / 256 ≡ 0b0101 }
-    ensures { decoded_tells result ≡ decoded_of word }
+    ensures { tells result ≡ decoded_of word }
 {
     if base::field(word, 0, 4) != 0 {
-        return Decoded::Refused(Refusal::Unlisted(0));
+        return Err(Refusal::Unlisted(0));
     }
-    Decoded::Means(Command::DisplayParameters(Display {
+    Ok(Command::DisplayParameters(Display {
         mode: base::field(word, 7, 1) == 1,
         limit: base::field(word, 4, 3) as u8,
     }))
 }
 
 // The word of a command, x bits 0, or refusal 9.
-pub fn encode(command: Command) -> Encoded
-    ensures { encoded_tells result ≡ encoded_of command }
+#[tactic(auto, unfolding(crate::specs::Words::encoded_of))]
+pub fn encode(command: Command) -> Result<u16, Refusal>
+    ensures { tells result ≡ encoded_of command }
 {
     match command {
-        Command::NoOperation => Encoded::Word(0b000000000000),
+        Command::NoOperation => Ok(0b000000000000),
         Command::BarLevel(level) => leading(0b000100000000, level, MOST_LEVEL),
         Command::SegmentClear(addr) => leading(0b000110000000, addr, MOST_ADDRESS),
         Command::SegmentSet(addr) => leading(0b000111000000, addr, MOST_ADDRESS),
-        Command::Reset => Encoded::Word(0b001000000001),
-        Command::Sleep => Encoded::Word(0b001000000010),
-        Command::ShiftLeft => Encoded::Word(0b001100000000),
-        Command::ShiftRight => Encoded::Word(0b001100000010),
-        Command::RotateLeft => Encoded::Word(0b001100000001),
-        Command::RotateRight => Encoded::Word(0b001100000011),
+        Command::Reset => Ok(0b001000000001),
+        Command::Sleep => Ok(0b001000000010),
+        Command::ShiftLeft => Ok(0b001100000000),
+        Command::ShiftRight => Ok(0b001100000010),
+        Command::RotateLeft => Ok(0b001100000001),
+        Command::RotateRight => Ok(0b001100000011),
         Command::CustomCharacter(shape) => leading(0b001110000000, shape, MOST_SHAPE),
-        Command::SystemParameters(s) => Encoded::Word(system_word(s)),
+        Command::SystemParameters(s) => Ok(system_word(s)),
         Command::DisplayParameters(d) => display_word(d),
         Command::BlinkByte(byte) => leading(0b011000000000, byte, 255),
-        Command::ReadKey => Encoded::Word(0b011100000000),
+        Command::ReadKey => Ok(0b011100000000),
         Command::LoadDigit { digit, byte } => digit_word(digit, byte),
     }
 }
 
 // A word that ends in a field, which may be at most so large.
-fn leading(bits: u16, value: u8, most: u8) -> Encoded
+fn leading(bits: u16, value: u8, most: u8) -> Result<u16, Refusal>
     requires { bits ≤ 4095 }
-    ensures { encoded_tells result ≡ pick (leb value most) (done (bits + value)) (refused 9 0) }
+    ensures { tells result ≡ pick (leb value most) (done (bits + value)) (refused 9 0) }
 {
     if value > most {
-        return Encoded::Refused(Refusal::Field(0));
+        return Err(Refusal::Field(0));
     }
-    Encoded::Word(bits + value as u16)
+    Ok(bits + u16::from(value))
 }
 
+#[tactic(auto, using(base::proofs::Cuts::bit_value_lt))]
 fn system_word(s: System) -> u16
     ensures { result ≡ word_of (Command.SystemParameters s) }
 {
@@ -221,30 +207,30 @@ fn system_word(s: System) -> u16
         + base::bit_value(s.disp)
 }
 
-fn display_word(d: Display) -> Encoded
-    ensures { encoded_tells result ≡ encoded_of (Command.DisplayParameters d) }
+#[tactic(auto, using(base::proofs::Cuts::bit_value_lt), unfolding(crate::specs::Words::encoded_of))]
+fn display_word(d: Display) -> Result<u16, Refusal>
+    ensures { tells result ≡ encoded_of (Command.DisplayParameters d) }
 {
     if d.limit > MOST_LIMIT {
-        return Encoded::Refused(Refusal::Field(0));
+        return Err(Refusal::Field(0));
     }
-    Encoded::Word(0b010100000000 + 128 * base::bit_value(d.mode) + 16 * (d.limit as u16))
+    Ok(0b010100000000 + 128 * base::bit_value(d.mode) + 16 * u16::from(d.limit))
 }
 
-fn digit_word(digit: u8, byte: u8) -> Encoded
-    ensures { encoded_tells result ≡ encoded_of (Command.LoadDigit digit byte) }
+#[tactic(auto, unfolding(crate::specs::Words::encoded_of))]
+fn digit_word(digit: u8, byte: u8) -> Result<u16, Refusal>
+    ensures { tells result ≡ encoded_of (Command.LoadDigit digit byte) }
 {
     if digit > MOST_DIGIT {
-        return Encoded::Refused(Refusal::Field(0));
+        return Err(Refusal::Field(0));
     }
-    Encoded::Word(0b100000000000 + 256 * (digit as u16) + byte as u16)
+    Ok(0b100000000000 + 256 * u16::from(digit) + u16::from(byte))
 }
 
 // Whether every field of a command is in range.
+#[tactic(auto, unfolding(crate::specs::Words::encoded_of))]
 pub fn is_legal(command: Command) -> bool
     ensures { result ≡ legal command }
 {
-    match encode(command) {
-        Encoded::Word(_) => true,
-        Encoded::Refused(_) => false,
-    }
+    matches!(encode(command), Ok(_))
 }

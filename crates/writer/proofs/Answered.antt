@@ -15,13 +15,14 @@ use lib.Dec.{leb}
 use lib.ListN.{length, take, drop}
 use lib.Seq.{take_at}
 use Rattle.base.specs.Pick.{pick}
-use Rattle.base.specs.Refusals.{Told, IsDone, done, refused}
+use Rattle.base.specs.Refusals.{Told, IsDone, done, refused, tells}
 use Rattle.base.proofs.Picks.{pick_yes}
-use Rattle.writer.specs.declared.Written.{Written}
-use Rattle.writer.specs.declared.Written.TheVariants.{Samples}
 use Rattle.writer.specs.Rows.{written, list_test}
-use Rattle.writer.specs.Written.{written_tells, room, answer_by, answer_of, bytes_by, Writes}
+use Rattle.writer.specs.Written.{room, answer_by, answer_of, bytes_by, Writes}
 use Rattle.writer.proofs.Stretches.{samples_length}
+use Rattle.std.specs.declared.result.Result.{Result}
+use Rattle.base.specs.declared.Refusal.{Refusal}
+use Rattle.std.specs.declared.result.Result.TheVariants.{Ok}
 
 pub number_told : (t : Told (Unit {0})) (need have count : ℕ) → answer_by t need have ≡ done count → (t ≡ done tt) × (need ≡ count)
 number_told (refused number place) need have count e = absurd (subst IsDone (sym e) tt)
@@ -40,9 +41,9 @@ refusal_told (refused number place) need have h e = ap untold e
     untold (refused m p) = refused m p
 refusal_told (done u) need have h e = absurd (subst IsDone (sym (pick_yes _ _ (le-leb need have h)) ∙ e) tt)
 
-module _ (n : ℕ) (ws out out' : List ℕ) (r : Written) (count : ℕ) (w : Writes n ws out r out') (e : r ≡ Samples count) where
+module _ (n : ℕ) (ws out out' : List ℕ) (r : Result ℕ Refusal) (count : ℕ) (w : Writes n ws out r out') (e : r ≡ Ok count) where
   told : answer_of n ws out ≡ done count
-  told = sym w.answer ∙ ap written_tells e
+  told = sym w.answer ∙ ap tells e
 
   both : (list_test n ws ≡ done tt) × (room n ws ≡ count)
   unfolding answer_of

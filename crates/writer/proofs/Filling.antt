@@ -1,10 +1,11 @@
 -- A buffer filled from its front: a word's 24 samples two by two, and a lent part put back.
 --     clocking_append, clocking_length     samples of bits one after another, and their number
---     word_length, word_bit                a word is 12 bits, each the field of one bit at its place
+--     word_length, word_samples, word_bit  a word is 12 bits and 24 samples, each bit the field of one bit at its place
 --     row_last                             a row's last word is sent first
 --     row_samples_length                   a row's samples are 24 for each word, and 2
 --     word_more, word_over                 one more bit of a word, and all of them
---     put_length, put_take, put_drop       a lent part put back: the length, what is done with the part, and what comes after it
+--     put_same                             a lent part put back, by numbers and a part that are equal
+--     put_take, put_drop                   what is done with the part, and what comes after it
 -- Assumes nothing.
 use mathlib.Core.Path.{◌≡◌, refl, ap, ap₂, sym, ◌∙◌}
 use mathlib.Core.List.{List, [], ◌∷◌, ◌++◌, append_assoc, append-nil}
@@ -16,7 +17,7 @@ use lib.ListN.{length, get_or, set, take, drop, length-append, length-set, drop_
 use lib.Seq.{take_all, drop-cons, take-suc-set}
 use Rattle.base.specs.Bits.{cut}
 use Rattle.base.specs.Lent.{placed}
-use Rattle.base.proofs.Lent.{placed_length, placed_take, placed_drop}
+use Rattle.base.proofs.Lent.{placed_take, placed_drop}
 use Rattle.base.proofs.Stores.{part_put}
 use Rattle.writer.specs.Rows.{row_samples, word_bits, row_bits, clocking}
 
@@ -46,6 +47,10 @@ up_to_at f (suc n) (suc k) h = up_to_at (λ k. f (suc k)) n k (le_of_suc-le-suc 
 pub word_length : (w : ℕ) → length (word_bits w) ≡ 12
 unfolding word_bits
 word_length w = refl
+
+-- and its samples are 24
+pub word_samples : (w : ℕ) → length (clocking 4 (word_bits w)) ≡ 24
+word_samples w = omega (arith, clocking_length 4 (word_bits w), word_length w)
 
 pub word_bit : (w at : ℕ) → at < 12 → get_or (word_bits w) at 0 ≡ cut w at 1
 unfolding word_bits up_to
@@ -119,6 +124,9 @@ word_over w out at h l =
 abbrev pub put : List ℕ → ℕ → ℕ → List ℕ → List ℕ
 put out a k ys = take a out ++ (ys ++ drop k (drop a out))
 
+pub put_same : (out : List ℕ) {a b k m : ℕ} {xs ys : List ℕ} → a ≡ b → k ≡ m → xs ≡ ys → put out a k xs ≡ put out b m ys
+put_same out {b = b} {m = m} {xs = xs} p q e = ap₂ (λ i n. put out i n xs) p q ∙ ap (put out b m) e
+
 module _ (out : List ℕ) (a k : ℕ) (ys : List ℕ) (fits : a + k ≤ length out) (whole : length ys ≡ k) where
   -- it is the piece put from a on
   put_is : put out a k ys ≡ placed a ys out
@@ -129,9 +137,6 @@ module _ (out : List ℕ) (a k : ℕ) (ys : List ℕ) (fits : a + k ≤ length o
 
   end : a + k ≡ a + length ys
   end = omega arith
-
-  pub put_length : length (put out a k ys) ≡ length out
-  put_length = ap length put_is ∙ placed_length out a ys within
 
   pub put_take : take (a + k) (put out a k ys) ≡ take a out ++ ys
   put_take = ap₂ take end put_is ∙ placed_take out a ys within

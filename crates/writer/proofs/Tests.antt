@@ -1,12 +1,11 @@
 -- The words of a list, tested from the first on.
---     words_more, words_over                 the test of the rest, seen from a place in the middle
---     test_means                             a word, by what it means; an unlisted one too
---     test_keypad, test_sleep, test_passed   a listed word that turns the keypad on too early, one of sleep too early, one that is accepted
+--     told_on                                the refusal of a test, handed on by a `?`
+--     words_after, words_over                the test of the rest, seen from a place in the middle
 --     passed_first, passed_next              two tests that were passed
 --     list_passed                            what a list that passed its tests has
 -- Assumes nothing.
-use mathlib.Core.Path.{◌≡◌, refl, ap, ap₂, sym, subst, ◌∙◌}
-use mathlib.Core.Bool.{Bool, true, false, not, ◌&&◌}
+use mathlib.Core.Path.{◌≡◌, ap, sym, subst, ◌∙◌}
+use mathlib.Core.Bool.{Bool, true, false}
 use mathlib.Core.List.{List, [], ◌∷◌}
 use Prim.Native.Nat.{ℕ, zero, suc, ◌+◌, ◌/◌, ◌%◌, ◌≤◌, ◌<◌, ◌*◌}
 use native.Mathlib.Nat.{div-add-mod', mul-le-mul_right, zero-add, not-suc-le-zero, le_of_suc-le-suc}
@@ -16,51 +15,37 @@ use lib.Dec.{T, eqb, leb, eqb→eq, leb→le}
 use lib.ListN.{length, get_or, drop, drop_of_length-le}
 use lib.Seq.{drop-cons}
 use Rattle.base.specs.Pick.{pick}
-use Rattle.base.specs.Refusals.{Told, IsDone, done, refused}
-use Rattle.word.specs.declared.Command.{Command}
-use Rattle.word.specs.declared.Decoded.{Decoded}
-use Rattle.word.specs.declared.Decoded.TheVariants as Dec
-use Rattle.word.specs.Answers.{decoded_tells}
-use Rattle.word.specs.Words.{decoded_of}
+use Rattle.base.specs.Refusals.{Told, IsDone, done, refused, refused_by, tells}
 use Rattle.chain.specs.Chain.{most, chip_count}
 use Rattle.chain.proofs.Tested.{count_low, count_high}
-use Rattle.writer.specs.Lights.{said_by_command, may_sleep, lit_sleep}
-use Rattle.writer.specs.Rows.{keypad_on, for_last, word_test, sleep_test, or_else, test_at, words_from, list_test}
+use Rattle.writer.specs.Rows.{or_else, test_at, words_from, list_test}
+use Rattle.std.specs.Result.{IsErrAnd}
+use Rattle.std.specs.declared.result.Result.{Result}
+use Rattle.std.specs.declared.result.Result.TheVariants.{Err}
+use Rattle.std.proofs.lemmas.Result.{err_from_is_err_and}
+use Rattle.base.specs.declared.Refusal.{Refusal}
 
-pub words_more : (n : ℕ) (ws : List ℕ) (i : ℕ) → i < length ws
+-- a refusal that a `?` hands on tells what it told
+pub told_on : {A : Type 0} (e : Refusal) (r : Result A Refusal) → IsErrAnd r (λ y. y ≡ e) → tells r ≡ refused_by e
+told_on e r h =
+    let p = err_from_is_err_and r h in
+    ap tells (p.1 ∙ ap Err p.2)
+
+words_more : (n : ℕ) (ws : List ℕ) (i : ℕ) → i < length ws
     → words_from n ws i (drop i ws) ≡ or_else (test_at n ws i (get_or ws i 0)) (words_from n ws (i + 1) (drop (i + 1) ws))
 unfolding words_from
 words_more n ws i h =
     ap (words_from n ws i) (drop-cons ws i 0 h)
     ∙ ap (λ m. or_else (test_at n ws i (get_or ws i 0)) (words_from n ws m (drop m ws))) (sym (add-one i))
 
+-- by what the test of the word there says
+pub words_after : (n : ℕ) (ws : List ℕ) (i : ℕ) → i < length ws → (t : Told (Unit {0})) → t ≡ test_at n ws i (get_or ws i 0)
+    → or_else t (words_from n ws (i + 1) (drop (i + 1) ws)) ≡ words_from n ws i (drop i ws)
+words_after n ws i h t e = ap (λ u. or_else u (words_from n ws (i + 1) (drop (i + 1) ws))) e ∙ sym (words_more n ws i h)
+
 pub words_over : (n : ℕ) (ws : List ℕ) (i : ℕ) → length ws ≤ i → words_from n ws i (drop i ws) ≡ done tt
 unfolding words_from
 words_over n ws i h = ap (words_from n ws i) (drop_of_length-le ws h)
-
--- ---- one word
-
-module _ (n : ℕ) (ws : List ℕ) (place w : ℕ) {r : Decoded} (told : decoded_tells r ≡ decoded_of w) where
-  pub test_means : (s : Decoded) → r ≡ s → or_else (word_test n place (decoded_tells s)) (sleep_test n ws place (decoded_tells s)) ≡ test_at n ws place w
-  test_means s q = ap (λ t. or_else (word_test n place t) (sleep_test n ws place t)) (ap decoded_tells (sym q) ∙ told)
-
-  module _ (c : Command) (q : r ≡ Dec.Means c) where
-    -- by its two tests
-    by_tests : {keypad lit : Bool} → (keypad_on c && not (for_last n place)) ≡ keypad → lit_sleep (said_by_command c) (may_sleep n ws place) ≡ lit
-        → or_else (pick keypad (refused 7 place) (done tt)) (pick lit (refused 13 place) (done tt)) ≡ test_at n ws place w
-    by_tests k l =
-        ap₂ (λ x y. or_else (pick x (refused 7 place) (done tt)) (pick y (refused 13 place) (done tt))) (sym k) (sym l) ∙ test_means (Dec.Means c) q
-
-    pub test_keypad : (keypad_on c && not (for_last n place)) ≡ true → refused 7 place ≡ test_at n ws place w
-    test_keypad on = by_tests on refl
-
-    pub test_sleep : (keypad_on c && not (for_last n place)) ≡ false → lit_sleep (said_by_command c) (may_sleep n ws place) ≡ true
-        → refused 13 place ≡ test_at n ws place w
-    test_sleep ok lit = by_tests ok lit
-
-    pub test_passed : (keypad_on c && not (for_last n place)) ≡ false → lit_sleep (said_by_command c) (may_sleep n ws place) ≡ false
-        → done tt ≡ test_at n ws place w
-    test_passed ok off = by_tests ok off
 
 -- ---- a list that passed
 

@@ -3,15 +3,10 @@
 use Rattle.std.specs.Prelude.{◌≡◌, ℕ, ◌*◌, ◌/◌, List, leb, length}
 use Rattle.base.specs.Lent.{laid}
 use Rattle.base.specs.Pick.{pick}
-use Rattle.base.specs.Refusals.{Told, done, refused, refused_by}
-use Rattle.writer.specs.declared.Written.{Written}
-use Rattle.writer.specs.declared.Written.TheVariants.{Samples, Refused}
+use Rattle.base.specs.Refusals.{Told, done, refused, tells}
 use Rattle.writer.specs.Rows.{width, written, list_test}
-
--- what the answer tells
-abbrev pub written_tells : Written → Told ℕ
-written_tells (Samples count) = done count
-written_tells (Refused e) = refused_by e
+use Rattle.std.specs.declared.result.Result.{Result}
+use Rattle.base.specs.declared.Refusal.{Refusal}
 
 -- how many samples a list is written as
 abbrev pub room : ℕ → List ℕ → ℕ
@@ -32,6 +27,6 @@ bytes_by (refused number place) samples out = out
 bytes_by (done count) samples out = laid samples out
 
 -- what `write` does: its answer, and the buffer after it
-pub record Writes (n : ℕ) (words out : List ℕ) (r : Written) (out' : List ℕ) : Type 0 where
-  pub answer : written_tells r ≡ answer_of n words out
+pub record Writes (n : ℕ) (words out : List ℕ) (r : Result ℕ Refusal) (out' : List ℕ) : Type 0 where
+  pub answer : tells r ≡ answer_of n words out
   pub bytes : out' ≡ bytes_by (answer_of n words out) (written n words) out

@@ -4,7 +4,7 @@ ghost use Rattle.std.specs.Prelude.{◌≡◌, ◌<◌, length};
 ghost use Rattle.word.specs.Words.{decoded_of};
 ghost use Rattle.writer.specs.Lights as L;
 
-use word::{Command, Decoded};
+use word::Command;
 
 // What a command says of its chip's display and keypad.
 #[derive(Clone, Copy)]
@@ -23,13 +23,11 @@ pub(crate) enum Lights {
 fn lights_by_bits(keyb: bool, disp: bool) -> Lights
     ensures { L.said_in result ≡ L.said_by_bits keyb disp }
 {
-    if keyb {
-        return Lights::On;
+    if keyb || disp {
+        Lights::On
+    } else {
+        Lights::Off
     }
-    if disp {
-        return Lights::On;
-    }
-    Lights::Off
 }
 
 // What a command says.
@@ -37,22 +35,10 @@ fn lights_by_command(command: Command) -> Lights
     ensures { L.said_in result ≡ L.said_by_command command }
 {
     match command {
-        Command::NoOperation => Lights::Unsaid,
-        Command::BarLevel(_) => Lights::Unsaid,
-        Command::SegmentClear(_) => Lights::Unsaid,
-        Command::SegmentSet(_) => Lights::Unsaid,
         Command::Reset => Lights::Off,
         Command::Sleep => Lights::Asleep,
-        Command::ShiftLeft => Lights::Unsaid,
-        Command::ShiftRight => Lights::Unsaid,
-        Command::RotateLeft => Lights::Unsaid,
-        Command::RotateRight => Lights::Unsaid,
-        Command::CustomCharacter(_) => Lights::Unsaid,
         Command::SystemParameters(s) => lights_by_bits(s.keyb, s.disp),
-        Command::DisplayParameters(_) => Lights::Unsaid,
-        Command::BlinkByte(_) => Lights::Unsaid,
-        Command::ReadKey => Lights::Unsaid,
-        Command::LoadDigit { digit: _, byte: _ } => Lights::Unsaid,
+        _ => Lights::Unsaid,
     }
 }
 
@@ -60,10 +46,10 @@ fn lights_by_command(command: Command) -> Lights
 fn lights_by_word(w: u16) -> Lights
     ensures { L.said_in result ≡ L.said_by_meaning (decoded_of w) }
 {
-    match word::decode(w) {
-        Decoded::Refused(_) => Lights::Unsaid,
-        Decoded::Means(c) => lights_by_command(c),
-    }
+    let Ok(command) = word::decode(w) else {
+        return Lights::Unsaid;
+    };
+    lights_by_command(command)
 }
 
 // Whether a sleep word may stand at a place: the words of the same chip in the rows before it, the nearest first, are looked through for
@@ -74,24 +60,15 @@ fn may_sleep(n: usize, words: &[u16], place: usize) -> bool
     ensures { result ≡ L.may_sleep n words.now place }
 {
     let chip = place % n;
-    let rows = place / n;
-    let mut passed = 0;
-    while passed < rows {
-        let row = rows - 1 - passed;
-        let at = row * n + chip;
-        match lights_by_word(words[at]) {
+    for row in (0..place / n).rev() {
+        match lights_by_word(words[row * n + chip]) {
             Lights::Off => {
                 return true;
             }
             Lights::On => {
                 return false;
             }
-            Lights::Asleep => {
-                passed += 1;
-            }
-            Lights::Unsaid => {
-                passed += 1;
-            }
+            Lights::Asleep | Lights::Unsaid => {}
         }
     }
     false

@@ -1,15 +1,16 @@
 -- A CH450's panel as 14 numbers, each no more than its place can hold; and the round trips of panels and numbers.
 --     under            such a number is below a bound that is above its most
+--     digit_low        the number of a digit is below 256
 --     panel_held       numbers that fit stand for a panel
 --     panel_refused    others are refused with 12
 --     panel_back       a panel that a run can hold, of six bytes, comes back from its numbers
 --     numbers_back     numbers that fit come back from the panel that they stand for
 -- Assumes nothing.
-use mathlib.Core.Path.{◌≡◌, refl, ◌∙◌}
+use mathlib.Core.Path.{◌≡◌, refl, sym, subst, ◌∙◌}
 use mathlib.Core.Bool.{Bool, true, false, ◌&&◌}
 use mathlib.Core.List.{List, ◌∷◌}
-use Prim.Native.Nat.{ℕ, ◌^◌, ◌≤◌, ◌<◌}
-use native.Mathlib.Nat.{lt_of_lt_of_le, le_of_suc-le-suc}
+use Prim.Native.Nat.{ℕ, ◌+◌, ◌^◌, ◌≤◌, ◌<◌}
+use native.Mathlib.Nat.{lt_of_lt_of_le, lt_of_le_of_lt, le_of_suc-le-suc}
 use lib.Pow.{pow_mono}
 use native.Mathlib.Omega.{arith}
 use borrow.Author.Tests.{le-leb, leb-true}
@@ -20,7 +21,7 @@ use Rattle.base.specs.Pick.{pick}
 use Rattle.base.specs.Refusals.{done, refused}
 use Rattle.base.proofs.Cuts.{bit_value_back}
 use Rattle.base.proofs.Picks.{pick_yes, pick_no}
-use Rattle.base.proofs.Tests.{and_left, and_right}
+use Rattle.base.proofs.Tests.{and_left, and_right, at_below}
 use Rattle.ch450.specs.declared.Panel.{Panel}
 use Rattle.ch450.specs.declared.Wires.{Wires}
 use Rattle.ch450.specs.Panel.{last_bit, kept_of, valid_transfer, valid_wires, valid}
@@ -31,6 +32,12 @@ use Rattle.zhaqsumir.proofs.Fitting.{number_bit, bit_most, digit_most}
 
 pub under : (ns : List ℕ) → fitting ns ≡ true → (k : ℕ) {bound : ℕ} → T (ltb k 14) → T (ltb (get_or mosts k 0) bound) → get_or ns k 0 < bound
 under ns h k within less = Fitting.under mosts ns 14 h k within less
+
+pub digit_low : (ns : List ℕ) → fitting ns ≡ true → (k : ℕ) → k < 6 → get_or ns (8 + k) 0 < 256
+digit_low ns h k l =
+    let fits = at_below (Fitting.fits_by mosts ns) 14 (subst T (sym h) tt) (8 + k) (omega arith) in
+    let byte = at_below (λ j. ltb (get_or mosts (8 + j) 0) 256) 6 tt k l in
+    lt_of_le_of_lt (leb→le (get_or ns (8 + k) 0) (get_or mosts (8 + k) 0) fits) (ltb→lt (get_or mosts (8 + k) 0) 256 byte)
 
 pub panel_held : (ns : List ℕ) → fitting ns ≡ true → panel_in ns ≡ done (panel_of ns)
 unfolding panel_in

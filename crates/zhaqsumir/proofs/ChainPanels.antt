@@ -5,7 +5,6 @@
 --     chain_back       the numbers of a chain whose records and levels are held pass the tests and stand for it
 --     rows_length      the numbers of such records are 25 each
 --     rest_stays       and those of the chips past them stay
---     below_each       a test that passes at each number below n
 --     first_places     the first n of as many values as a list has elements
 -- Assumes nothing.
 use mathlib.Core.Path.{◌≡◌, refl, ap, ap₂, sym, subst, ◌∙◌}
@@ -35,13 +34,8 @@ use Rattle.chain.proofs.Tested.{count_high}
 use Rattle.zhaqsumir.specs.Panels.{chip_fits, byte_at, chip_of, record_numbers, from_chip, count_in, chip_fits_in, tested_in, record_in, chain_of, row_numbers, chain_numbers, panel_by, block_in, BlocksNumbers}
 use Rattle.zhaqsumir.proofs.ChainRows.{rows_suc}
 use Rattle.zhaqsumir.proofs.ChipNumbers.{places_front, numbers_front, chip_length, chip_fits_lem, chip_back}
-use Rattle.zhaqsumir.proofs.Counts.{at_places}
-
--- the value at one of so many places
-place_at : {A : Type 0} (f : ℕ → A) (n k : ℕ) (d : A) → k < n → get_or (at_places f n) k d ≡ f k
-place_at f zero k d h = absurd (not-suc-le-zero h)
-place_at f (suc n) zero d h = refl
-place_at f (suc n) (suc k) d h = place_at (λ j. f (suc j)) n k d (le_of_suc-le-suc h)
+use Rattle.zhaqsumir.proofs.Counts.{at_places, place_at}
+use Rattle.zhaqsumir.proofs.Fitting.{below_each}
 
 -- where chip k's numbers start, seen from chip 0's
 from_first : (k : ℕ) (ns : List ℕ) → from_chip k ns ≡ drop (25 * k) (drop 2 ns)
@@ -147,11 +141,6 @@ rows_length zero cs l held = refl
 rows_length (suc n) [] l held = absurd (not-suc-le-zero l)
 rows_length (suc n) (c ∷ cs) l held =
     omega (arith, length-append (record_numbers c) (row_numbers n cs), chip_length c held.0, rows_length n cs (le_of_suc-le-suc l) held.1)
-
--- a test that passes at each number below n
-pub below_each : (f : ℕ → Bool) (n : ℕ) → ((k : ℕ) → k < n → f k ≡ true) → below f n ≡ true
-below_each f zero each = refl
-below_each f (suc n) each = ap₂ ◌&&◌ (each n (le_refl (suc n))) (below_each f n (λ k h. each k (lt_of_lt_of_le h (le_of_lt (le_refl (suc n))))))
 
 -- the first n of as many values as a list has elements
 pub first_places : {A : Type 0} (f : ℕ → A) (n : ℕ) (xs : List A) (d : A) → ((k : ℕ) → k < n → k < length xs → f k ≡ get_or xs k d) → take n (at_places f (length xs)) ≡ take n xs

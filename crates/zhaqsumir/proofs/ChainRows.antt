@@ -1,32 +1,32 @@
 -- The numbers of a chain's records in a lent panel, one record after another.
 --     part_rest              a part that goes to the end is the rest
---     paste_placed           a copy of all of a piece is the piece put
+--     put_at                 a piece put after a part of so many numbers
 --     rows_suc, rows_more    the numbers of one record more
---     rows_past              and of more records than there are
+--     rows_few               and of the first n, no more than there are
 --     chip_put               the next record's numbers put after those before it
 --     head_put               numbers put after N and the levels, which are stored
 -- Assumes nothing.
 use mathlib.Core.Path.{◌≡◌, refl, ap, ap₂, sym, ◌∙◌}
 use mathlib.Core.List.{List, [], ◌∷◌, ◌++◌, append_assoc, append-nil}
-use Prim.Native.Nat.{ℕ, zero, suc, ◌+◌, ◌-◌, ◌*◌, ◌≤◌, ◌<◌}
+use Prim.Native.Nat.{ℕ, zero, suc, ◌+◌, ◌-◌, ◌*◌, ◌≤◌, ◌<◌, min}
 use native.Mathlib.Nat.{not-suc-le-zero, le_of_suc-le-suc}
 use native.Mathlib.Numerals.{add-one}
 use native.Mathlib.Omega.{arith}
 use lib.ListN.{length, get_or, take, drop, set, length-drop}
-use lib.Seq.{take_all, drop-drop, paste}
+use lib.Seq.{take_all, take_at, drop_at}
 use Rattle.base.specs.Lent.{laid, placed}
 use Rattle.base.proofs.Lent.{placed_again}
 use Rattle.base.proofs.Stores.{two_put}
+use Rattle.base.proofs.Tests.{by_order}
+use borrow.Rule.Slice.PartMut.{put_mid}
 use Rattle.chip.specs.declared.Chip.{Chip}
 use Rattle.zhaqsumir.specs.Panels.{record_numbers, row_numbers}
 
 pub part_rest : (m : ℕ) (ns : List ℕ) → take (length ns - m) (drop m ns) ≡ drop m ns
 part_rest m ns = take_all (length ns - m) (drop m ns) (omega (arith, length-drop m ns))
 
-pub paste_placed : (out : List ℕ) (at : ℕ) (piece : List ℕ) (k : ℕ) → length piece ≡ k → paste out at piece k ≡ placed at piece out
-paste_placed out at piece k whole =
-    append_assoc (take at out) (take k piece) (drop (at + k) out)
-    ∙ ap₂ (λ p r. take at out ++ (p ++ r)) (take_all k piece (omega arith)) (sym (drop-drop k at out) ∙ ap (λ n. drop n (drop at out)) (sym whole))
+pub put_at : (ns rest piece : List ℕ) (at k : ℕ) → length ns ≡ at → put_mid at k (ns ++ rest) piece ≡ ns ++ (piece ++ drop k rest)
+put_at ns rest piece at k e = ap₂ (λ p r. p ++ (piece ++ drop k r)) (take_at ns rest at e) (drop_at ns rest at e)
 
 -- by the place as a definition recurses
 pub rows_suc : (k : ℕ) (cs : List Chip) (d : Chip) → k < length cs → row_numbers (suc k) cs ≡ row_numbers k cs ++ record_numbers (get_or cs k d)
@@ -47,8 +47,18 @@ rows_all (suc k) [] h = refl
 rows_all zero (c ∷ cs) h = absurd (not-suc-le-zero h)
 rows_all (suc k) (c ∷ cs) h = ap (λ r. record_numbers c ++ r) (rows_all k cs (le_of_suc-le-suc h))
 
-pub rows_past : (k count : ℕ) (cs : List Chip) → length cs ≤ k → k ≤ count → row_numbers k cs ≡ row_numbers count cs
-rows_past k count cs h l = rows_all k cs h ∙ sym (rows_all count cs (omega arith))
+-- of the first n, all there are
+rows_front : (n : ℕ) (cs : List Chip) → row_numbers (length (take n cs)) (take n cs) ≡ row_numbers n cs
+unfolding row_numbers
+rows_front zero cs = refl
+rows_front (suc n) [] = refl
+rows_front (suc n) (c ∷ cs) = ap (λ r. record_numbers c ++ r) (rows_front n cs)
+
+pub rows_few : (n most : ℕ) (cs : List Chip) → length cs ≡ most → row_numbers (length (take (min n most) cs)) (take (min n most) cs) ≡ row_numbers n cs
+rows_few n most cs e =
+    rows_front (min n most) cs
+    ∙ by_order n most (λ h. ap (λ m. row_numbers m cs) (omega arith))
+    (λ h. rows_all (min n most) cs (omega arith) ∙ sym (rows_all n cs (omega arith)))
 
 pub chip_put : (out w piece : List ℕ) (k : ℕ) → length w ≡ 25 * k → length piece ≡ 25 → 2 + 25 * k + 25 ≤ length out
     → placed (2 + 25 * k) piece (placed 2 w out) ≡ placed 2 (w ++ piece) out

@@ -2,6 +2,7 @@ pub mod Fields
 pub mod Ranges
 pub mod RoundTrips
 pub mod Counts
+pub mod Made
 pub mod Fitting
 pub mod Ch450Panels
 pub mod ChainRows

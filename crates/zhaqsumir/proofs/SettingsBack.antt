@@ -29,7 +29,8 @@ use Rattle.settings.proofs.Putting.{legal_at}
 use Rattle.settings.proofs.Texts.{passes}
 use Rattle.zhaqsumir.specs.Numbers.{alone}
 use Rattle.zhaqsumir.specs.Settings.{kept_fits, kept_of, kept_numbers, from_kept, kept_fits_in, settings_tested, kept_in, kiosk_of, kiosk_numbers, read_by, read_numbers, WritesSettings}
-use Rattle.zhaqsumir.proofs.ChainPanels.{below_each, first_places}
+use Rattle.zhaqsumir.proofs.ChainPanels.{first_places}
+use Rattle.zhaqsumir.proofs.Fitting.{below_each}
 use Rattle.zhaqsumir.proofs.Counts.{at_places}
 use Rattle.zhaqsumir.proofs.KeptNumbers.{kept_fits_lem, kept_back}
 use Rattle.zhaqsumir.proofs.SettingsNumbers.{numbers_writable}

@@ -13,17 +13,14 @@ use lib.Dec.{T}
 use lib.ListN.{length, set, take, replicate, drop_of_length-le}
 use Rattle.base.specs.Below.{below, every}
 use Rattle.base.specs.Lent.{placed}
-use Rattle.base.specs.Refusals.{IsDone, done, refused_by, verdict_tells}
+use Rattle.base.specs.Refusals.{IsDone, done, refused_by, tells}
 use Rattle.base.specs.declared.Refusal.{Refusal}
-use Rattle.base.specs.declared.Verdict.{Verdict}
-use Rattle.base.specs.declared.Verdict.TheVariants as Verdicts
 use Rattle.base.proofs.Tests.{is_true, at_below}
 use Rattle.chain.specs.Chain.{chip_count}
 use Rattle.lines.proofs.Each.{lines_width}
 use Rattle.settings.specs.declared.Kept.{Kept}
 use Rattle.settings.specs.declared.Kiosk.{Kiosk}
-use Rattle.settings.specs.declared.Put.{Put}
-use Rattle.settings.specs.Putting.{settings_test, put_tells, answer_by, buffer_by, Fits}
+use Rattle.settings.specs.Putting.{settings_test, answer_by, buffer_by, Fits}
 use Rattle.settings.specs.Settings.{legal_kept}
 use Rattle.settings.proofs.Texts.{passes_test}
 use Rattle.zhaqsumir.specs.Numbers.{alone}
@@ -32,6 +29,7 @@ use Rattle.zhaqsumir.specs.Settings.{kept_numbers, kept_fits_in, settings_tested
 use Rattle.zhaqsumir.proofs.ChainPanels.{both_passed}
 use Rattle.zhaqsumir.proofs.Counts.{at_places}
 use Rattle.zhaqsumir.proofs.KeptNumbers.{chip_legal}
+use Rattle.std.specs.declared.result.Result.{Result}
 
 -- ---- the tests
 
@@ -81,20 +79,18 @@ module _ (piece_of : Kiosk → List ℕ) (ns out : List ℕ) where
   abbrev piece : List ℕ
   piece = piece_of (kiosk_of ns)
 
-  module _ {v : Verdict} (tests : verdict_tells v ≡ settings_tested ns) where
-    pub puts_refused : {e : Refusal} {answer : List ℕ} → v ≡ Verdicts.Refused e → answer ≡ alone (refused_by e) → PutsNumbers ns piece out answer out
-    puts_refused {e} q so =
-        let told : settings_tested ns ≡ refused_by e = sym tests ∙ ap verdict_tells q in
-        record { numbers = so ∙ sym (ap (λ t. alone (answer_by t piece out)) told); buffer = sym (ap (λ t. buffer_by (answer_by t piece out) piece out) told) }
+  pub puts_refused : (e : Refusal) (r : Result ℕ Refusal) → tells r ≡ refused_by e → settings_tested ns ≡ refused_by e
+      → PutsNumbers ns piece out (alone (tells r)) out
+  puts_refused e r says told =
+      record { numbers = ap alone (says ∙ sym (ap (λ t. answer_by t piece out) told)); buffer = sym (ap (λ t. buffer_by (answer_by t piece out) piece out) told) }
 
-    pub puts_done : {kiosk : Kiosk} {r : Put} {answer out' : List ℕ} → v ≡ Verdicts.Done → kiosk ≡ kiosk_of ns → Fits kiosk (piece_of kiosk) out r out'
-        → answer ≡ alone (put_tells r)
-        → PutsNumbers ns piece out answer out'
-    puts_done {r = r} {out' = out'} q from put so =
-        let told : settings_tested ns ≡ done tt = sym tests ∙ ap verdict_tells q in
-        let same : settings_test (kiosk_of ns) ≡ settings_tested ns = numbers_writable ns told ∙ sym told in
-        let fits = subst (λ (k : Kiosk). Fits k (piece_of k) out r out') from put in
-        record {
-          numbers = so ∙ ap alone (fits.answer ∙ ap (λ t. answer_by t piece out) same);
-          buffer = fits.buffer ∙ ap (λ t. buffer_by (answer_by t piece out) piece out) same;
-        }
+  pub puts_done : {kiosk : Kiosk} {r : Result ℕ Refusal} {out' : List ℕ} → settings_tested ns ≡ done tt → kiosk ≡ kiosk_of ns
+      → Fits kiosk (piece_of kiosk) out r out'
+      → PutsNumbers ns piece out (alone (tells r)) out'
+  puts_done {r = r} {out' = out'} told from put =
+      let same : settings_test (kiosk_of ns) ≡ settings_tested ns = numbers_writable ns told ∙ sym told in
+      let fits = subst (λ (k : Kiosk). Fits k (piece_of k) out r out') from put in
+      record {
+        numbers = ap alone (fits.answer ∙ ap (λ t. answer_by t piece out) same);
+        buffer = fits.buffer ∙ ap (λ t. buffer_by (answer_by t piece out) piece out) same;
+      }

@@ -3,10 +3,9 @@
 --                      chain, from which every answer is made
 -- Assumes nothing.
 use mathlib.Core.Path.{◌≡◌, refl, ap, ap₂, sym, ◌∙◌}
-use mathlib.Core.Bool.{Bool, ◌&&◌}
+use mathlib.Core.Bool.{◌&&◌}
 use mathlib.Core.List.{List, [], ◌∷◌}
 use Prim.Native.Nat.{ℕ, zero, suc, ◌+◌, ◌*◌, ◌%◌, ◌<◌}
-use native.Mathlib.Nat.{le_refl, lt_of_lt_of_le, le_of_lt}
 use native.Mathlib.Omega.{arith}
 use borrow.Author.Tests.{lt-ltb, le-ltb}
 use lib.Dec.{leb}
@@ -20,14 +19,11 @@ use Rattle.base.proofs.Tests.{by_order}
 use Rattle.chain.specs.Chain.{chip_count}
 use Rattle.zhaqsumir.specs.Panels.{chip_fits, chip_of, from_chip, count_in, chip_fits_in, tested_in, record_in, chain_of}
 use Rattle.zhaqsumir.proofs.Counts.{at_places}
+use Rattle.zhaqsumir.proofs.Fitting.{below_same}
 
 places_same : {A : Type 0} (f g : ℕ → A) (n : ℕ) → ((k : ℕ) → k < n → f k ≡ g k) → at_places f n ≡ at_places g n
 places_same f g zero each = refl
 places_same f g (suc n) each = ap₂ ◌∷◌ (each 0 (omega arith)) (places_same (λ k. f (suc k)) (λ k. g (suc k)) n (λ k h. each (suc k) (omega arith)))
-
-below_same : (f g : ℕ → Bool) (n : ℕ) → ((k : ℕ) → k < n → f k ≡ g k) → below f n ≡ below g n
-below_same f g zero each = refl
-below_same f g (suc n) each = ap₂ ◌&&◌ (each n (le_refl (suc n))) (below_same f g n (λ k h. each k (lt_of_lt_of_le h (le_of_lt (le_refl (suc n))))))
 
 -- of a chip's numbers 25 are looked at
 module _ (xs ys : List ℕ) (same : (j : ℕ) → j < 25 → get_or xs j 0 ≡ get_or ys j 0) where

@@ -7,8 +7,8 @@ use Rattle.base.specs.Refusals.{Told, done, refused}
 use Rattle.word.specs.Ranges.{most_of}
 use Rattle.word.specs.declared.Command.{Command}
 use Rattle.word.specs.declared.Command.TheVariants.{NoOperation, BarLevel, SegmentClear, SegmentSet, Reset, Sleep, ShiftLeft, ShiftRight, RotateLeft, RotateRight, CustomCharacter, SystemParameters, DisplayParameters, BlinkByte, ReadKey, LoadDigit}
-use Rattle.zhaqsumir.specs.declared.commands.Given.{Given}
-use Rattle.zhaqsumir.specs.declared.commands.Given.TheVariants as G
+use Rattle.std.specs.declared.option.Option.{Option}
+use Rattle.std.specs.declared.option.Option.TheVariants.{Some, None}
 
 -- a kind and five fields
 abbrev six : ℕ → ℕ → ℕ → ℕ → ℕ → ℕ → List ℕ
@@ -92,6 +92,6 @@ abbrev pub command_in : List ℕ → Told Command
 command_in ns = command_from (get_or ns 0 0) (get_or ns 1 0) (get_or ns 2 0) (get_or ns 3 0) (get_or ns 4 0) (get_or ns 5 0)
 
 -- what the code has of a command that is given
-abbrev pub given_tells : Given → Told Command
-given_tells (G.Is c) = done c
-given_tells G.Refused = refused 9 0
+abbrev pub given_tells : Option Command → Told Command
+given_tells (Some c) = done c
+given_tells None = refused 9 0

@@ -13,10 +13,10 @@ use Rattle.ch450.specs.Commands.{encoded_of}
 use Rattle.ch450.specs.Entries.{segments_of, played_of}
 use Rattle.ch450.specs.Panel.{dark}
 use Rattle.ch450.specs.Written.{written, answer_of, bytes_by}
-use Rattle.zhaqsumir.specs.declared.two_wires.Asked.{Asked}
-use Rattle.zhaqsumir.specs.declared.two_wires.Asked.TheVariants as A
 use Rattle.zhaqsumir.specs.Commands.{fits}
 use Rattle.zhaqsumir.specs.Numbers.{number_in, place_in, alone}
+use Rattle.std.specs.declared.option.Option.{Option}
+use Rattle.std.specs.declared.option.Option.TheVariants.{Some, None}
 
 -- ---- encode: a kind and four fields, to number, place, word
 
@@ -40,9 +40,9 @@ abbrev pub command_in : List ℕ → Told Command
 command_in ns = command_from (get_or ns 0 0) (get_or ns 1 0) (get_or ns 2 0) (get_or ns 3 0) (get_or ns 4 0)
 
 -- what the code has of a command that is given
-abbrev pub asked_tells : Asked → Told Command
-asked_tells (A.Is c) = done c
-asked_tells A.Refused = refused 9 0
+abbrev pub asked_tells : Option Command → Told Command
+asked_tells (Some c) = done c
+asked_tells None = refused 9 0
 
 -- the word of a command that was given
 abbrev pub word_by : Told Command → Told ℕ

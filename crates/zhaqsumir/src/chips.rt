@@ -1,11 +1,12 @@
 // One chip of a CH452 panel as 25 numbers: register, latch, the readout's code and bits left; INTM, SSPD, DPLR, KEYB, DISP, MODE,
 // LIMIT, blink byte, custom character, sleeping; DIG0 to DIG7; key code, interrupt, last scan. A number that is missing counts as 0.
-ghost use Rattle.std.specs.Prelude.{◌≡◌, ◌%◌, get_or};
+ghost use Rattle.std.specs.Prelude.{◌≡◌, ◌%◌, get_or, leb, length};
+ghost use Rattle.base.specs.Below.{below};
 ghost use Rattle.zhaqsumir.specs.Panels as P;
 
-use crate::commands::bit;
 use crate::panels::CHIP;
 use chip::{Chip, Keys, LineParts, Readout, Settings};
+use std::array;
 use word::{Display, System};
 
 // The most that each number of a chip can be.
@@ -14,14 +15,27 @@ const MOSTS: [u64; CHIP] = [
     255, 1, 255,
 ];
 
+// Where the numbers of the digits start.
+const DIGITS: usize = 14;
+
+// Where those of the key record start.
+const KEYS: usize = 22;
+
+// Whether the number at each place is no more than the most there.
+pub(crate) fn are_within(numbers: &[u64], mosts: &[u64]) -> bool
+    ensures { result ≡ below (λ j. leb (get_or numbers.now j 0) (get_or mosts.now j 0)) (length mosts.now) }
+{
+    numbers
+        .iter()
+        .zip(mosts)
+        .all(|(number, most)| number <= most)
+}
+
 // The number at a place.
 pub(crate) fn at(numbers: &[u64], j: usize) -> u64
     ensures { result ≡ get_or numbers.now j 0 }
 {
-    if j < numbers.len() {
-        return numbers[j];
-    }
-    0
+    numbers.get(j).copied().unwrap_or(0)
 }
 
 // The byte at a place.
@@ -85,16 +99,7 @@ fn settings_of(numbers: &[u64]) -> Settings
 fn digits_of(numbers: &[u64]) -> [u8; 8]
     ensures { result ≡ P.digits_of numbers.now }
 {
-    [
-        byte_at(numbers, 14),
-        byte_at(numbers, 15),
-        byte_at(numbers, 16),
-        byte_at(numbers, 17),
-        byte_at(numbers, 18),
-        byte_at(numbers, 19),
-        byte_at(numbers, 20),
-        byte_at(numbers, 21),
-    ]
+    array::from_fn(|k| byte_at(numbers, DIGITS + k))
 }
 
 // The key record.
@@ -124,70 +129,53 @@ pub(crate) fn chip_of(numbers: &[u64]) -> Chip
 pub(crate) fn is_fitting(numbers: &[u64]) -> bool
     ensures { result ≡ P.chip_fits numbers.now }
 {
-    let mosts = MOSTS;
-    let mut j = 0;
-    while j < CHIP {
-        if at(numbers, j) > mosts[j] {
-            return false;
-        }
-        j += 1;
-    }
-    true
+    are_within(numbers, &MOSTS)
 }
 
-// Eight bytes as numbers.
-pub(crate) fn wide(bytes: [u8; 8]) -> [u64; 8]
-    ensures { result ≡ bytes }
+// Bytes as numbers.
+pub(crate) fn wide<const N: usize>(bytes: [u8; N]) -> [u64; N]
+    ensures { result ≡ bytes.entry }
 {
-    [
-        bytes[0] as u64,
-        bytes[1] as u64,
-        bytes[2] as u64,
-        bytes[3] as u64,
-        bytes[4] as u64,
-        bytes[5] as u64,
-        bytes[6] as u64,
-        bytes[7] as u64,
-    ]
+    bytes.map(u64::from)
 }
 
 // The numbers of a record.
 pub(crate) fn numbers_of(chip: Chip) -> [u64; CHIP]
     ensures { result ≡ P.record_numbers chip }
 {
-    let line = chip.line;
-    let readout = line.readout;
-    let settings = chip.settings;
-    let system = settings.system;
-    let display = settings.display;
-    let bytes = chip.digits;
-    let digits = wide(bytes);
-    let keys = chip.keys;
-    [
-        line.register as u64,
-        bit(line.latch),
-        readout.code as u64,
-        readout.left as u64,
-        bit(system.intm),
-        bit(system.sspd),
-        bit(system.dplr),
-        bit(system.keyb),
-        bit(system.disp),
-        bit(display.mode),
-        display.limit as u64,
-        settings.blink as u64,
-        settings.custom as u64,
-        bit(settings.sleeping),
-        digits[0],
-        digits[1],
-        digits[2],
-        digits[3],
-        digits[4],
-        digits[5],
-        digits[6],
-        digits[7],
-        keys.code as u64,
-        bit(keys.interrupt),
-        keys.last as u64,
-    ]
+    let Chip {
+        line,
+        settings,
+        digits,
+        keys,
+    } = chip;
+    let Settings {
+        system,
+        display,
+        ..
+    } = settings;
+    let mut numbers = [0; CHIP];
+    numbers[..DIGITS].copy_from_slice(&[
+        u64::from(line.register),
+        u64::from(line.latch),
+        u64::from(line.readout.code),
+        u64::from(line.readout.left),
+        u64::from(system.intm),
+        u64::from(system.sspd),
+        u64::from(system.dplr),
+        u64::from(system.keyb),
+        u64::from(system.disp),
+        u64::from(display.mode),
+        u64::from(display.limit),
+        u64::from(settings.blink),
+        u64::from(settings.custom),
+        u64::from(settings.sleeping),
+    ]);
+    numbers[DIGITS..KEYS].copy_from_slice(&wide(digits));
+    numbers[KEYS..].copy_from_slice(&[
+        u64::from(keys.code),
+        u64::from(keys.interrupt),
+        u64::from(keys.last),
+    ]);
+    numbers
 }

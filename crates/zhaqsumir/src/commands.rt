@@ -1,24 +1,9 @@
 // Commands as numbers, and back.
 ghost use Rattle.std.specs.Prelude.{◌≡◌, ◌%◌, ◌∷◌};
-ghost use Rattle.base.specs.Bits.{bit_value};
 ghost use Rattle.base.specs.Refusals.{done};
 ghost use Rattle.zhaqsumir.specs.Commands as C;
 
 use word::{Command, Display, System};
-
-// A command of six numbers; refused where there is no such kind, or a field is out of range.
-#[derive(Clone, Copy)]
-pub(crate) enum Given {
-    Is(Command),
-    Refused,
-}
-
-// The number of a bit: 1 or 0.
-pub(crate) fn bit(b: bool) -> u64
-    ensures { result ≡ bit_value b }
-{
-    base::bit_value(b) as u64
-}
 
 // The answer of a word that means a command: no refusal, its kind, from 0 in document 01's order, and five fields.
 pub(crate) fn meaning(command: Command) -> [u64; 8]
@@ -26,53 +11,50 @@ pub(crate) fn meaning(command: Command) -> [u64; 8]
 {
     match command {
         Command::NoOperation => [0, 0, 0, 0, 0, 0, 0, 0],
-        Command::BarLevel(level) => [0, 0, 1, level as u64, 0, 0, 0, 0],
-        Command::SegmentClear(addr) => [0, 0, 2, addr as u64, 0, 0, 0, 0],
-        Command::SegmentSet(addr) => [0, 0, 3, addr as u64, 0, 0, 0, 0],
+        Command::BarLevel(level) => [0, 0, 1, u64::from(level), 0, 0, 0, 0],
+        Command::SegmentClear(addr) => [0, 0, 2, u64::from(addr), 0, 0, 0, 0],
+        Command::SegmentSet(addr) => [0, 0, 3, u64::from(addr), 0, 0, 0, 0],
         Command::Reset => [0, 0, 4, 0, 0, 0, 0, 0],
         Command::Sleep => [0, 0, 5, 0, 0, 0, 0, 0],
         Command::ShiftLeft => [0, 0, 6, 0, 0, 0, 0, 0],
         Command::ShiftRight => [0, 0, 7, 0, 0, 0, 0, 0],
         Command::RotateLeft => [0, 0, 8, 0, 0, 0, 0, 0],
         Command::RotateRight => [0, 0, 9, 0, 0, 0, 0, 0],
-        Command::CustomCharacter(shape) => [0, 0, 10, shape as u64, 0, 0, 0, 0],
+        Command::CustomCharacter(shape) => [0, 0, 10, u64::from(shape), 0, 0, 0, 0],
         Command::SystemParameters(s) => [
             0,
             0,
             11,
-            bit(s.intm),
-            bit(s.sspd),
-            bit(s.dplr),
-            bit(s.keyb),
-            bit(s.disp),
+            u64::from(s.intm),
+            u64::from(s.sspd),
+            u64::from(s.dplr),
+            u64::from(s.keyb),
+            u64::from(s.disp),
         ],
-        Command::DisplayParameters(d) => [0, 0, 12, bit(d.mode), d.limit as u64, 0, 0, 0],
-        Command::BlinkByte(byte) => [0, 0, 13, byte as u64, 0, 0, 0, 0],
+        Command::DisplayParameters(d) => [0, 0, 12, u64::from(d.mode), u64::from(d.limit), 0, 0, 0],
+        Command::BlinkByte(byte) => [0, 0, 13, u64::from(byte), 0, 0, 0, 0],
         Command::ReadKey => [0, 0, 14, 0, 0, 0, 0, 0],
-        Command::LoadDigit { digit, byte } => [0, 0, 15, digit as u64, byte as u64, 0, 0, 0],
+        Command::LoadDigit { digit, byte } => [
+            0,
+            0,
+            15,
+            u64::from(digit),
+            u64::from(byte),
+            0,
+            0,
+            0,
+        ],
     }
 }
 
 // Five bits.
-fn system_from(a: u64, b: u64, c: u64, d: u64, e: u64) -> Given
+fn system_from(a: u64, b: u64, c: u64, d: u64, e: u64) -> Option<Command>
     ensures { C.given_tells result ≡ C.system_from a b c d e }
 {
-    if a > 1 {
-        return Given::Refused;
+    if a > 1 || b > 1 || c > 1 || d > 1 || e > 1 {
+        return None;
     }
-    if b > 1 {
-        return Given::Refused;
-    }
-    if c > 1 {
-        return Given::Refused;
-    }
-    if d > 1 {
-        return Given::Refused;
-    }
-    if e > 1 {
-        return Given::Refused;
-    }
-    Given::Is(Command::SystemParameters(System {
+    Some(Command::SystemParameters(System {
         intm: a == 1,
         sspd: b == 1,
         dplr: c == 1,
@@ -82,32 +64,26 @@ fn system_from(a: u64, b: u64, c: u64, d: u64, e: u64) -> Given
 }
 
 // A bit, and a limit.
-fn display_from(a: u64, b: u64) -> Given
+fn display_from(a: u64, b: u64) -> Option<Command>
     ensures { C.given_tells result ≡ C.display_from a b }
 {
-    if a > 1 {
-        return Given::Refused;
+    if a > 1 || b > u64::from(word::MOST_LIMIT) {
+        return None;
     }
-    if b > word::MOST_LIMIT as u64 {
-        return Given::Refused;
-    }
-    Given::Is(Command::DisplayParameters(Display {
+    Some(Command::DisplayParameters(Display {
         mode: a == 1,
         limit: b as u8,
     }))
 }
 
 // A digit, and a byte.
-fn digit_from(a: u64, b: u64) -> Given
+fn digit_from(a: u64, b: u64) -> Option<Command>
     ensures { C.given_tells result ≡ C.digit_from a b }
 {
-    if a > word::MOST_DIGIT as u64 {
-        return Given::Refused;
+    if a > u64::from(word::MOST_DIGIT) || b > 255 {
+        return None;
     }
-    if b > 255 {
-        return Given::Refused;
-    }
-    Given::Is(Command::LoadDigit {
+    Some(Command::LoadDigit {
         digit: a as u8,
         byte: b as u8,
     })
@@ -121,36 +97,36 @@ fn low(a: u64) -> u8
 }
 
 // A command with one field, the number given for it, and the most that it may be.
-fn one_field(a: u64, most: u8, command: Command) -> Given
+fn one_field(a: u64, most: u8, command: Command) -> Option<Command>
     ensures { C.given_tells result ≡ C.fits most a (done command) }
 {
-    if a > most as u64 {
-        return Given::Refused;
+    if a > u64::from(most) {
+        return None;
     }
-    Given::Is(command)
+    Some(command)
 }
 
 // The command of a kind and five fields.
-pub(crate) fn command_from(kind: u64, a: u64, b: u64, c: u64, d: u64, e: u64) -> Given
+pub(crate) fn command_from(kind: u64, a: u64, b: u64, c: u64, d: u64, e: u64) -> Option<Command>
     ensures { C.given_tells result ≡ C.command_from kind a b c d e }
 {
     match kind {
-        0 => Given::Is(Command::NoOperation),
+        0 => Some(Command::NoOperation),
         1 => one_field(a, word::MOST_LEVEL, Command::BarLevel(low(a))),
         2 => one_field(a, word::MOST_ADDRESS, Command::SegmentClear(low(a))),
         3 => one_field(a, word::MOST_ADDRESS, Command::SegmentSet(low(a))),
-        4 => Given::Is(Command::Reset),
-        5 => Given::Is(Command::Sleep),
-        6 => Given::Is(Command::ShiftLeft),
-        7 => Given::Is(Command::ShiftRight),
-        8 => Given::Is(Command::RotateLeft),
-        9 => Given::Is(Command::RotateRight),
+        4 => Some(Command::Reset),
+        5 => Some(Command::Sleep),
+        6 => Some(Command::ShiftLeft),
+        7 => Some(Command::ShiftRight),
+        8 => Some(Command::RotateLeft),
+        9 => Some(Command::RotateRight),
         10 => one_field(a, word::MOST_SHAPE, Command::CustomCharacter(low(a))),
         11 => system_from(a, b, c, d, e),
         12 => display_from(a, b),
         13 => one_field(a, 255, Command::BlinkByte(low(a))),
-        14 => Given::Is(Command::ReadKey),
+        14 => Some(Command::ReadKey),
         15 => digit_from(a, b),
-        _ => Given::Refused,
+        _ => None,
     }
 }

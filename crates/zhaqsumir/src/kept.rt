@@ -2,14 +2,14 @@
 // character. What they stand for, and the numbers of settings put. Numbers of chips from N on are not looked at.
 ghost use Rattle.std.specs.Prelude.{◌≡◌, ◌+◌, ◌*◌, ◌≤◌, length};
 ghost use Rattle.base.specs.Below.{below};
-ghost use Rattle.base.specs.Refusals.{verdict_tells};
+ghost use Rattle.base.specs.Refusals.{tells};
 ghost use Rattle.lines.specs.Answers.{Puts};
 ghost use Rattle.zhaqsumir.specs.Settings as S;
 
-use crate::chips::{at, bit_at, byte_at};
-use crate::commands::bit;
-use base::{Refusal, Verdict};
+use crate::chips::{are_within, bit_at, byte_at};
+use base::Refusal;
 use settings::{Kept, Kiosk};
+use std::array;
 use word::{Display, System};
 
 // How many numbers a chip's settings are.
@@ -25,15 +25,7 @@ const MOSTS: [u64; KEPT] = [1, 1, 1, 1, 1, 1, 7, 255, 127];
 fn is_fitting(numbers: &[u64]) -> bool
     ensures { result ≡ S.kept_fits numbers.now }
 {
-    let mosts = MOSTS;
-    let mut j = 0;
-    while j < KEPT {
-        if at(numbers, j) > mosts[j] {
-            return false;
-        }
-        j += 1;
-    }
-    true
+    are_within(numbers, &MOSTS)
 }
 
 // Whether each number of the first n chips is.
@@ -41,29 +33,21 @@ fn are_fitting(numbers: &[u64], n: usize) -> bool
     requires { 1 + 9 * n ≤ length numbers.now }
     ensures { result ≡ below (S.kept_fits_in numbers.now) n }
 {
-    let mut k = 0;
-    while k < n {
-        let from = 1 + KEPT * k;
-        if !is_fitting(&numbers[from..]) {
-            return false;
-        }
-        k += 1;
-    }
-    true
+    (0..n).all(|k| is_fitting(&numbers[1 + KEPT * k..]))
 }
 
 // The tests of the numbers of settings: refusals 3, 9.
-pub(crate) fn tested(numbers: &[u64; SETTINGS]) -> Verdict
-    ensures { verdict_tells result ≡ S.settings_tested numbers.now }
+pub(crate) fn tested(numbers: &[u64; SETTINGS]) -> Result<(), Refusal>
+    ensures { tells result ≡ S.settings_tested numbers.now }
 {
     let n = numbers[0] as usize;
     if !chain::checks::is_count(n) {
-        return Verdict::Refused(Refusal::ChipCount);
+        return Err(Refusal::ChipCount);
     }
     if !are_fitting(numbers, n) {
-        return Verdict::Refused(Refusal::Field(0));
+        return Err(Refusal::Field(0));
     }
-    Verdict::Done
+    Ok(())
 }
 
 // The settings that the first nine numbers stand for.
@@ -92,8 +76,7 @@ fn kept_in(numbers: &[u64], k: usize) -> Kept
     requires { 1 + 9 * k ≤ length numbers.now }
     ensures { result ≡ S.kept_in numbers.now k }
 {
-    let from = 1 + KEPT * k;
-    kept_of(&numbers[from..])
+    kept_of(&numbers[1 + KEPT * k..])
 }
 
 // The settings that the numbers stand for.
@@ -102,16 +85,7 @@ pub(crate) fn kiosk_of(numbers: &[u64; SETTINGS]) -> Kiosk
 {
     Kiosk {
         n: numbers[0] as usize,
-        chips: [
-            kept_in(numbers, 0),
-            kept_in(numbers, 1),
-            kept_in(numbers, 2),
-            kept_in(numbers, 3),
-            kept_in(numbers, 4),
-            kept_in(numbers, 5),
-            kept_in(numbers, 6),
-            kept_in(numbers, 7),
-        ],
+        chips: array::from_fn(|k| kept_in(numbers, k)),
     }
 }
 
@@ -119,18 +93,21 @@ pub(crate) fn kiosk_of(numbers: &[u64; SETTINGS]) -> Kiosk
 fn numbers_of(c: Kept) -> [u64; KEPT]
     ensures { result ≡ S.kept_numbers c }
 {
-    let system = c.system;
-    let display = c.display;
+    let Kept {
+        system,
+        display,
+        ..
+    } = c;
     [
-        bit(system.intm),
-        bit(system.sspd),
-        bit(system.dplr),
-        bit(system.keyb),
-        bit(system.disp),
-        bit(display.mode),
-        display.limit as u64,
-        c.blink as u64,
-        c.custom as u64,
+        u64::from(system.intm),
+        u64::from(system.sspd),
+        u64::from(system.dplr),
+        u64::from(system.keyb),
+        u64::from(system.disp),
+        u64::from(display.mode),
+        u64::from(display.limit),
+        u64::from(c.blink),
+        u64::from(c.custom),
     ]
 }
 
@@ -139,12 +116,9 @@ fn put(numbers: &mut [u64], from: usize, own: [u64; KEPT]) -> usize
     requires { from + 9 ≤ length numbers.old }
     ensures { Puts own from numbers.old result numbers.new }
 {
-    let mut j = 0;
-    while j < KEPT {
-        numbers[from + j] = own[j];
-        j += 1;
-    }
-    from + KEPT
+    let end = from + KEPT;
+    numbers[from..end].copy_from_slice(&own);
+    end
 }
 
 // Puts the numbers of all eight chips from a place on.
@@ -153,11 +127,8 @@ pub(crate) fn put_all(numbers: &mut [u64], from: usize, chips: [Kept; chain::MOS
     ensures { Puts (S.chips_numbers chips) from numbers.old result numbers.new }
 {
     let mut end = from;
-    let mut k = 0;
-    while k < chain::MOST {
-        let c = chips[k];
+    for c in chips {
         end = put(numbers, end, numbers_of(c));
-        k += 1;
     }
     end
 }

@@ -13,130 +13,102 @@ mod panels;
 mod tallied;
 mod two_wires;
 
-ghost use Rattle.std.specs.Prelude.{◌≡◌};
-ghost use Rattle.base.specs.Refusals.{verdict_tells};
+ghost use Rattle.std.specs.Prelude.{◌≡◌, [], ◌∷◌};
+ghost use Rattle.base.specs.Refusals.{tells};
 ghost use Rattle.chain.specs.Finder.{next_rise_of};
-ghost use Rattle.word.specs.Answers.{decoded_tells, encoded_tells};
-ghost use Rattle.writer.specs.Written.{written_tells};
 ghost use Rattle.zhaqsumir.specs.Commands.{given_tells};
 ghost use Rattle.zhaqsumir.specs.Numbers as N;
 ghost use Rattle.zhaqsumir.specs.Panels as P;
 ghost use Rattle.zhaqsumir.specs.TwoWires as T;
 
-use base::Verdict;
+use base::{Handed, Refusal};
 use capture::Replayed;
-use chain::finder::{Found, Rise};
-use commands::Given;
+use chain::finder::Found;
 pub use panels::Panel;
 use tallies::Tally;
-use word::{Decoded, Encoded};
-use writer::Written;
+use two_wires::After;
+use word::Command;
 
-// The number of a verdict's refusal; 0 where it is none.
-pub(crate) fn verdict_number(v: Verdict) -> u64
-    ensures { result ≡ N.number_in (verdict_tells v) }
+// The number and the place of an answer's refusal; zeros where it is none.
+pub(crate) fn verdict(v: Result<(), Refusal>) -> [u64; 2]
+    ensures { result ≡ N.number_in (tells v) ∷ N.place_in (tells v) ∷ [] }
 {
     match v {
-        Verdict::Done => 0,
-        Verdict::Refused(e) => base::number(e),
+        Ok(()) => [0, 0],
+        Err(e) => [base::number(e), base::place(e)],
     }
 }
 
-// The place of a verdict's refusal; 0 where it is none.
-pub(crate) fn verdict_place(v: Verdict) -> u64
-    ensures { result ≡ N.place_in (verdict_tells v) }
+// An answer of one number: the word of a command, or how many there are.
+pub(crate) fn alone(answer: Result<usize, Refusal>) -> [u64; 3]
+    ensures { result ≡ N.alone (tells answer) }
 {
-    match v {
-        Verdict::Done => 0,
-        Verdict::Refused(e) => base::place(e),
+    match answer {
+        Ok(number) => [0, 0, number as u64],
+        Err(e) => [base::number(e), base::place(e), 0],
     }
 }
 
 // What a word means.
-fn decoded(answer: Decoded) -> [u64; 8]
-    ensures { result ≡ N.decode_by (decoded_tells answer) }
+fn decoded(answer: Result<Command, Refusal>) -> [u64; 8]
+    ensures { result ≡ N.decode_by (tells answer) }
 {
     match answer {
-        Decoded::Means(c) => commands::meaning(c),
-        Decoded::Refused(e) => [base::number(e), base::place(e), 0, 0, 0, 0, 0, 0],
-    }
-}
-
-// A command's word.
-fn encoded(answer: Encoded) -> [u64; 3]
-    ensures { result ≡ N.alone (encoded_tells answer) }
-{
-    match answer {
-        Encoded::Word(w) => [0, 0, w as u64],
-        Encoded::Refused(e) => [base::number(e), base::place(e), 0],
+        Ok(c) => commands::meaning(c),
+        Err(e) => [base::number(e), base::place(e), 0, 0, 0, 0, 0, 0],
     }
 }
 
 // The word of a command that was given.
-fn given(g: Given) -> [u64; 3]
+fn given(g: Option<Command>) -> [u64; 3]
     ensures { result ≡ N.alone (N.encoded_by (given_tells g)) }
 {
-    match g {
-        Given::Is(c) => encoded(word::encode(c)),
-        Given::Refused => [9, 0, 0],
-    }
-}
-
-// How many samples were written.
-fn written(answer: Written) -> [u64; 3]
-    ensures { result ≡ N.alone (written_tells answer) }
-{
-    match answer {
-        Written::Samples(count) => [0, 0, count as u64],
-        Written::Refused(e) => [base::number(e), base::place(e), 0],
-    }
+    let Some(command) = g else {
+        return [9, 0, 0];
+    };
+    alone(word::encode(command).map(usize::from))
 }
 
 // 1 where there is a rise.
-fn is_rise(rise: Rise) -> u64
+fn is_rise(rise: Option<usize>) -> u64
     ensures { result ≡ N.is_rise (next_rise_of rise) }
 {
     match rise {
-        Rise::At(_) => 1,
-        Rise::Nothing => 0,
+        Some(_) => 1,
+        None => 0,
     }
 }
 
 // The place of a rise, or 0.
-fn rise_place(rise: Rise) -> u64
+fn rise_place(rise: Option<usize>) -> u64
     ensures { result ≡ N.rise_place (next_rise_of rise) }
 {
     match rise {
-        Rise::At(at) => at as u64,
-        Rise::Nothing => 0,
+        Some(at) => at as u64,
+        None => 0,
     }
 }
 
 // The next rise.
 fn found(f: Found) -> [u64; 5]
-    ensures { result ≡ N.find_by (verdict_tells f.answer) (next_rise_of f.rise) f.passed }
+    ensures { result ≡ N.find_by (tells f.answer) (next_rise_of f.rise) f.passed }
 {
-    let answer = f.answer;
-    let rise = f.rise;
+    let [number, place] = verdict(f.answer);
     [
-        verdict_number(answer),
-        verdict_place(answer),
-        is_rise(rise),
-        rise_place(rise),
+        number,
+        place,
+        is_rise(f.rise),
+        rise_place(f.rise),
         f.passed as u64,
     ]
 }
 
 // How a text was replayed.
 fn replayed(r: Replayed) -> [u64; 3]
-    ensures { result ≡ N.replay_by (verdict_tells r.answer) r.bytes }
+    ensures { result ≡ N.replay_by (tells r.answer) r.bytes }
 {
-    let answer = r.answer;
-    [
-        verdict_number(answer),
-        verdict_place(answer),
-        r.bytes as u64,
-    ]
+    let [number, place] = verdict(r.answer);
+    [number, place, r.bytes as u64]
 }
 
 // What a word means: number, place, kind, five fields.
@@ -150,16 +122,15 @@ pub fn zhaqsumir_decode(word: u16, answer: &mut [u64; 8])
 pub fn zhaqsumir_encode(command: &[u64; 6], answer: &mut [u64; 3])
     ensures { answer.new ≡ N.encode_numbers command.now }
 {
-    *answer = given(commands::command_from(
-        command[0], command[1], command[2], command[3], command[4], command[5],
-    ));
+    let [kind, a, b, c, d, e] = *command;
+    *answer = given(commands::command_from(kind, a, b, c, d, e));
 }
 
 // Writes rows of words, chip 0 first in each row: number, place, how many samples.
 pub fn zhaqsumir_write(n: usize, words: &[u16], out: &mut [u8], answer: &mut [u64; 3])
     ensures { N.WritesNumbers n words.now out.old answer.new out.new }
 {
-    *answer = written(writer::write(n, words, out));
+    *answer = alone(writer::write(n, words, out));
 }
 
 // Looks for the next LOAD rise: number, place, 1 where there is one, its place, how many samples were passed.
@@ -191,40 +162,44 @@ pub fn zhaqsumir_tally(
         codes: *codes,
         largest: *largest as usize,
     };
-    let counted = tallies::count(before, text);
-    let verdict = counted.answer;
-    let after = counted.tally;
-    let counts = after.chips;
-    let times = after.codes;
+    let Handed {
+        value: tally,
+        answer: counted,
+    } = tallies::count(before, text);
+    let Tally {
+        chips: counts,
+        codes: times,
+        largest: most,
+    } = tally;
     *chips = tallied::numbers_of(counts);
     *codes = times;
-    *largest = after.largest as u64;
-    *answer = [verdict_number(verdict), verdict_place(verdict)];
+    *largest = most as u64;
+    *answer = verdict(counted);
 }
 
 // The word of a CH450 command, given as kind and four fields: number, place, word.
 pub fn zhaqsumir_ch450_encode(command: &[u64; 5], answer: &mut [u64; 3])
     ensures { answer.new ≡ T.ch450_word command.now }
 {
-    *answer = two_wires::word_of(two_wires::command_from(
-        command[0], command[1], command[2], command[3], command[4],
-    ));
+    let [kind, a, b, c, d] = *command;
+    *answer = two_wires::word_of(two_wires::command_from(kind, a, b, c, d));
 }
 
 // Writes CH450 commands, given as words: number, place, how many samples.
 pub fn zhaqsumir_ch450_write(words: &[u16], out: &mut [u8], answer: &mut [u64; 3])
     ensures { T.Ch450Writes words.now out.old answer.new out.new }
 {
-    *answer = two_wires::written(ch450::writer::write(words, out));
+    *answer = alone(ch450::writer::write(words, out));
 }
 
 // Plays samples into the CH450 panel that is lent as numbers: number, place, how many times the key was read.
 pub fn zhaqsumir_ch450_play(panel: &mut [u64; 14], key: u8, samples: &[u8], answer: &mut [u64; 3])
     ensures { T.Ch450Plays panel.old key samples.now answer.new panel.new }
 {
-    let after = two_wires::play(panel, key, samples);
-    let numbers = after.panel;
-    let told = after.answer;
+    let After {
+        panel: numbers,
+        answer: told,
+    } = two_wires::play(panel, key, samples);
     *panel = numbers;
     *answer = told;
 }

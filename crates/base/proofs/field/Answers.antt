@@ -11,5 +11,5 @@ returns-then-at-ge16 c = sym (cut_past 16 c.args.n c.args.at c.args.width c.rang
 pub returns-then-width-ge16 : goal.returns-then-width-ge16
 returns-then-width-ge16 c = sym (cut_whole 16 c.args.n c.args.at c.args.width c.ranges.n.fits c.if-width-ge16.true)
 
-pub returns : goal.returns
-returns c = masked 16 (c.args.n / 2 ^ c.args.at) c.args.width c.if-width-ge16.false
+pub returns-else-width-ge16 : goal.returns-else-width-ge16
+returns-else-width-ge16 c = masked 16 (c.args.n / 2 ^ c.args.at) c.args.width c.if-width-ge16.false

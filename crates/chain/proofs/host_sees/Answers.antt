@@ -2,7 +2,7 @@
 -- Assumes nothing.
 use mathlib.Core.Path.{ap, sym, ◌∙◌}
 use mathlib.Core.Bool.{Bool}
-use Rattle.base.specs.Refusals.{done, verdict_tells}
+use Rattle.base.specs.Refusals.{done, tells}
 use Rattle.base.proofs.Refusals.{by_done, by_refusal}
 use Rattle.chip.specs.Commands.{dout}
 use Rattle.chain.proofs.Tested.{tested_done, count_low}
@@ -12,14 +12,14 @@ pub overflow_sub-n : goal.overflow_sub-n
 unfolding Rattle.chain.specs.Entries.seen_of
 overflow_sub-n c =
     let a = c.args in
-    count_low a.n (tested_done a.n a.chain (sym c.tested-test.ensures ∙ ap verdict_tells c.in-Done.is)).0
+    count_low a.n (tested_done a.n a.chain (sym c.tested.ensures ∙ ap tells c.in_default.is)).0
 
-pub returns-in-Refused : goal.returns-in-Refused
+pub returns-in-Err : goal.returns-in-Err
 unfolding Rattle.chain.specs.Entries.seen_of
-returns-in-Refused c = sym (by_refusal _ _ c.tested-test.ensures c.in-Refused.is)
+returns-in-Err c = sym (by_refusal _ _ c.tested.ensures c.in-Err.is)
 
-pub returns-in-Done : goal.returns-in-Done
+pub returns : goal.returns
 unfolding Rattle.chain.specs.Entries.seen_of
-returns-in-Done c =
+returns c =
     ap (λ (b : Bool). record { state = b; told = done tt }) (c.dout.ensures ∙ ap dout c.chip_at.ensures)
-    ∙ sym (by_done _ _ c.tested-test.ensures c.in-Done.is)
+    ∙ sym (by_done _ _ c.tested.ensures c.in_default.is)

@@ -19,5 +19,5 @@ returns-then-not-is_count c =
 pub returns : goal.returns
 unfolding Rattle.chain.specs.Entries.started_of
 returns c =
-    ap (λ (r : Chip). record { state = record { chips = replicate most r; levels = 7 }; told = done tt }) c.reset_chip-c.ensures
+    ap (λ (r : Chip). record { state = record { chips = replicate most r; levels = 7 }; told = done tt }) c.reset_chip.ensures
     ∙ sym (pick_yes _ _ (sym c.is_count.ensures ∙ not-false c.is_count.result c.if-not-is_count.false-raw))

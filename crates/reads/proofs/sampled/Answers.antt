@@ -1,20 +1,10 @@
 -- `reads::sampled` meets its contract.
 -- Assumes nothing.
-use Rattle.std.proofs.Common.{◌%◌, T, sym, ap, ◌∙◌, subst, arith, rules}
+use Rattle.std.proofs.Common.{◌%◌, ap, ◌∙◌}
 use Rattle.chip.specs.declared.Chip.{Chip}
-use Rattle.chain.proofs.Tested.{count_high, count_low}
 use Rattle.reads.specs.Reads.{kept, looked}
 use Rattle.reads.proofs.Sampling.{sampled_so}
 use Rattle.reads.proofs.sampled.Goals as goal
-
-pub overflow_sub-k : goal.overflow_sub-k
-overflow_sub-k c = search (rules, count_low c.args.n (subst T (sym c.requires.n_value) tt))
-
-pub overflow_cast-k : goal.overflow_cast-k
-overflow_cast-k c = search (rules, count_high c.args.n (subst T (sym c.requires.n_value) tt))
-
-pub put-end-requires : goal.put-end-requires
-put-end-requires c = omega (arith, c.requires.at_in_bounds)
 
 pub returns : goal.returns
 returns c =
@@ -23,4 +13,4 @@ returns c =
     sampled_so a.what a.n p.n_value a.offset a.b a.chain a.reader p.at_in_bounds
     (c.look-looked.ensures ∙ ap (λ (last : Chip). looked a.chain.levels (a.b % 8) last a.reader) c.chip_at-last.ensures)
     c.put-end.ensures c.samples-took.ensures
-    (c.kept.ensures ∙ ap (λ (last : Chip). kept a.chain.levels a.b a.offset last c.look-looked.result.reader) c.chip_at.ensures)
+    (c.kept.ensures ∙ ap (λ (last : Chip). kept a.chain.levels a.b a.offset last c.look-looked.result.reader) c.chip_at-last-2.ensures)

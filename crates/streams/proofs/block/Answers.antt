@@ -1,7 +1,10 @@
 -- `streams::block` meets its contract: by the stream's kind.
 -- Assumes nothing.
+use Rattle.std.proofs.Common.{ap}
+use Rattle.capture.proofs.Reported.{none_put}
+use Rattle.streams.specs.declared.Kind.{Kind}
 use Rattle.streams.specs.declared.Kind.TheVariants.{Text, Raw}
-use Rattle.streams.proofs.Feeding.{writes_as, none_written, after_writes, fed_kind}
+use Rattle.streams.proofs.Feeding.{writes_as, after_writes, fed_kind}
 use Rattle.streams.proofs.block.Goals as goal
 
 pub returns-in-Unknown : goal.returns-in-Unknown
@@ -24,4 +27,5 @@ returns-in-Raw c =
 pub returns-in-Over : goal.returns-in-Over
 returns-in-Over c =
     let a = c.args in
-    writes_as (fed_kind a.what a.stream a.bytes.now c.in-Over.is) (none_written _ a.out.now)
+    writes_as (fed_kind a.what a.stream a.bytes.now c.in-Over.is)
+    (record { stream = ap (λ (kind : Kind). record { kind = kind; state = a.stream.state }) c.in-Over.is; puts = none_put 0 a.out.now })

@@ -3,15 +3,10 @@
 use Rattle.std.proofs.Common.{arith}
 use Rattle.lines.proofs.Puts.{put_whole}
 use Rattle.capture.proofs.Reported.{refusal_length}
-use Rattle.streams.proofs.Feeding.{end_none, end_some}
+use Rattle.streams.proofs.Feeding.{end_some}
 use Rattle.streams.proofs.text_end.Goals as goal
-
-pub returns-then-held-eq0 : goal.returns-then-held-eq0
-returns-then-held-eq0 c =
-    let a = c.args in
-    end_none a.state.held.count _ c.if-held-eq0.true a.out.now
 
 pub returns : goal.returns
 returns c =
     let a = c.args in
-    end_some a.state.held.count _ c.if-held-eq0.false (put_whole (omega (arith, refusal_length 10 a.state.place, c.requires)) c.refusal.ensures)
+    end_some a.state.held.count _ c.if-state-eq0.false (put_whole (omega (arith, refusal_length 10 a.state.place, c.requires)) c.refusal.ensures)

@@ -2,13 +2,10 @@
 -- Assumes nothing.
 use mathlib.Core.Path.{◌≡◌}
 use mathlib.Core.List.{◌++◌}
-use Prim.Native.Nat.{◌-◌, ◌*◌, ◌≤◌}
-use lib.ListN.{length, take, drop}
+use Prim.Native.Nat.{◌*◌}
+use lib.ListN.{take, drop}
 use Rattle.writer.specs.Rows.{word_bits, clocking}
 use Rattle.writer.proofs.write_word.Given as goal
 
 abbrev pub invariant-loop-at : goal.invariant-loop-at
-invariant-loop-at l = (l.at ≤ 12) × (length l.out ≡ 24) × (take (l.at * 2) l.out ++ clocking 4 (drop l.at (word_bits l.w)) ≡ clocking 4 (word_bits l.w))
-
-abbrev pub decreases-loop-at : goal.decreases-loop-at
-decreases-loop-at l = 12 - l.at
+invariant-loop-at l = take (l.at * 2) l.out ++ clocking 4 (drop l.at (word_bits l.w)) ≡ clocking 4 (word_bits l.w)

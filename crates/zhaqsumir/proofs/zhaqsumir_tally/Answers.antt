@@ -6,5 +6,4 @@ use Rattle.zhaqsumir.proofs.zhaqsumir_tally.Goals as goal
 pub returns : goal.returns
 returns c =
     let counted = c.count-counted in
-    tally_numbers counted.result c.chips_from.ensures counted.ensures
-    c.verdict_number.ensures c.verdict_place.ensures c.numbers_of.ensures
+    tally_numbers counted.result c.chips_from.ensures counted.ensures c.verdict.ensures c.numbers_of.ensures

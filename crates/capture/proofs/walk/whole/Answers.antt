@@ -1,8 +1,6 @@
 -- `capture::walk::whole` meets its contract: a text too long, one whose first line is refused, and the lines after the first.
 -- Assumes nothing.
-use mathlib.Core.Path.{refl, sym, ◌∙◌}
-use native.Mathlib.Omega.{arith}
-use lib.ListN.{length}
+use Rattle.std.proofs.Common.{refl, arith, rules, length}
 use Rattle.lines.proofs.Puts.{put_whole}
 use Rattle.capture.proofs.Reported.{refusal_length}
 use Rattle.capture.proofs.Firsts.{long_out_lem, none_out, replays_so, piece_room, begun_more, begun_few, begun_out}
@@ -18,43 +16,23 @@ returns-then-text-gt-LONGEST c =
 pub wrong_line-requires : goal.wrong_line-requires
 wrong_line-requires c =
     let a = c.args in
-    let e = none_out a.what a.text.now c.if-text-gt-LONGEST.false (sym c.chips_of-n.ensures ∙ c.if-n-eq0.true) in
-    let p = piece_room (length a.out.now) e.0 c.requires in
-    omega (arith, p, refusal_length 10 1)
+    let none = none_out a.what a.text.now c.if-text-gt-LONGEST.false (search rules) in
+    omega (arith, piece_room (length a.out.now) none.0 c.requires, refusal_length 10 1)
 
-pub returns-then-n-eq0 : goal.returns-then-n-eq0
-returns-then-n-eq0 c =
-    let a = c.args in
-    let e = none_out a.what a.text.now c.if-text-gt-LONGEST.false (sym c.chips_of-n.ensures ∙ c.if-n-eq0.true) in
-    replays_so _ e c.wrong_line.ensures
+pub returns-in_default : goal.returns-in_default
+returns-in_default c = search (rules, replays_so, none_out)
 
 pub overflow_add-end : goal.overflow_add-end
-overflow_add-end c =
-    let a = c.args in
-    let end = c.line_end-end in
-    let first = c.chips_of-n in
-    let start = c.start-begun in
-    omega
-    (arith, begun_more a.text.now end.result first.result start.result end.ensures first.ensures c.if-n-eq0.false start.ensures)
+overflow_add-end c = grind (arith, begun_more)
 
-pub lines-requires : goal.lines-requires
-lines-requires c =
-    let a = c.args in
-    let short = c.if-text-gt-LONGEST.false in
-    let end = c.line_end-end in
-    let first = c.chips_of-n in
-    let some = c.if-n-eq0.false in
-    let start = c.start-begun in
-    let out = begun_out a.text.now end.result first.result start.result end.ensures first.ensures some start.ensures a.what short in
-    let more = begun_more a.text.now end.result first.result start.result end.ensures first.ensures some start.ensures in
-    let few = begun_few a.text.now end.result first.result start.result end.ensures first.ensures some start.ensures in
-    record { n_bound = few; from_in_bounds = (omega (arith, more), short); text_in_bounds = piece_room (length a.out.now) out.0 c.requires }
+pub lines-requires-clause-n_bound : goal.lines-requires-clause-n_bound
+lines-requires-clause-n_bound c = search (rules, begun_few)
+
+pub lines-requires-clause-from_in_bounds : goal.lines-requires-clause-from_in_bounds
+lines-requires-clause-from_in_bounds c = grind (arith, begun_more)
+
+pub lines-requires-clause-text_in_bounds : goal.lines-requires-clause-text_in_bounds
+lines-requires-clause-text_in_bounds c = grind (arith, begun_out)
 
 pub returns : goal.returns
-returns c =
-    let a = c.args in
-    let end = c.line_end-end in
-    let first = c.chips_of-n in
-    let start = c.start-begun in
-    replays_so _ (begun_out a.text.now end.result first.result start.result end.ensures first.ensures c.if-n-eq0.false start.ensures a.what c.if-text-gt-LONGEST.false)
-    c.lines.ensures
+returns c = search (rules, replays_so, begun_out)

@@ -2,10 +2,11 @@
 -- Assumes nothing.
 use mathlib.Core.Path.{ap, sym, ◌∙◌}
 use Rattle.ch450.specs.Commands.{obeyed}
-use Rattle.ch450.specs.declared.commands.Meaning.{Meaning}
 use Rattle.ch450.proofs.commands.obeyed.Goals as goal
+use Rattle.std.specs.declared.option.Option.{Option}
+use Rattle.ch450.specs.declared.Command.{Command}
 
-pub returns-in-Means : goal.returns-in-Means
-returns-in-Means c =
+pub returns-in-Some : goal.returns-in-Some
+returns-in-Some c =
     c.applied.ensures
-    ∙ sym (ap (λ (m : Meaning). obeyed m c.args.panel) c.in-Means.is)
+    ∙ sym (ap (λ (m : Option Command). obeyed m c.args.panel) c.in-Some.is)

@@ -7,22 +7,22 @@ use Rattle.ch450.specs.declared.play.Run.{Run}
 use Rattle.ch450.specs.Entries as E
 use Rattle.ch450.proofs.play.play.Goals as goal
 
-pub returns-in-Refused : goal.returns-in-Refused
+pub returns-in-Err : goal.returns-in-Err
 unfolding E.played_of
-returns-in-Refused c = sym (by_refusal _ _ c.tested-first.ensures c.in-Refused.is)
+returns-in-Err c = sym (by_refusal _ _ c.tested.ensures c.in-Err.is)
 
-pub returns-in-Refused-second : goal.returns-in-Refused-second
+pub returns-in-Err-checked : goal.returns-in-Err-checked
 unfolding E.played_of
-returns-in-Refused-second c =
+returns-in-Err-checked c =
     sym
-    (by_done _ _ c.tested-first.ensures c.in-Done.is
-    ∙ by_refusal _ _ c.checked-second.ensures c.in-Refused-second.is)
+    (by_done _ _ c.tested.ensures c.in_default.is
+    ∙ by_refusal _ _ c.checked.ensures c.in-Err-checked.is)
 
-pub returns-in-Done-second : goal.returns-in-Done-second
+pub returns : goal.returns
 unfolding E.played_of
-returns-in-Done-second c =
+returns c =
     ap (λ (r : Run). record { state = r.panel; told = done r.reads }) c.all_played-run.ensures
     ∙ sym
-    (by_done _ _ c.tested-first.ensures
-    c.in-Done.is
-    ∙ by_done _ _ c.checked-second.ensures c.in-Done-second.is)
+    (by_done _ _ c.tested.ensures
+    c.in_default.is
+    ∙ by_done _ _ c.checked.ensures c.in_default-checked.is)

@@ -8,25 +8,27 @@ use Rattle.base.proofs.Refusals.{by_done, by_refusal}
 use Rattle.ch450.specs.declared.Panel.{Panel}
 use Rattle.ch450.specs.Entries as E
 use Rattle.ch450.proofs.play.sample.Goals as goal
+use Rattle.std.specs.declared.option.Option.{Option}
+use Prim.Native.Nat.{ℕ}
 
 pub returns-then-sample-gt3 : goal.returns-then-sample-gt3
 unfolding E.sampled_of
 returns-then-sample-gt3 c =
     sym
-    (by_done _ _ c.tested-test.ensures c.in-Done.is
+    (by_done _ _ c.tested.ensures c.in_default.is
     ∙ pick_no _ _ (lt-leb c.args.sample 3 c.if-sample-gt3.true))
 
-pub returns-in-Refused : goal.returns-in-Refused
+pub returns-in-Err : goal.returns-in-Err
 unfolding E.sampled_of
-returns-in-Refused c = sym (by_refusal _ _ c.tested-test.ensures c.in-Refused.is)
+returns-in-Err c = sym (by_refusal _ _ c.tested.ensures c.in-Err.is)
 
-pub returns-else-sample-gt3 : goal.returns-else-sample-gt3
+pub returns : goal.returns
 unfolding E.sampled_of
-returns-else-sample-gt3 c =
+returns c =
     let a = c.args in
-    ap₂ (λ (p : Panel) (r : E.Answered). record { state = p; told = done r }) c.stepped.ensures
+    ap₂ (λ (p : Panel) (r : Option ℕ). record { state = p; told = done r }) c.stepped.ensures
     (c.code_read.ensures ∙ ap (E.answer_to a.key) c.told_at.ensures)
     ∙ sym
-    (by_done _ _ c.tested-test.ensures
-    c.in-Done.is
+    (by_done _ _ c.tested.ensures
+    c.in_default.is
     ∙ pick_yes _ _ (le-leb a.sample 3 c.if-sample-gt3.false))

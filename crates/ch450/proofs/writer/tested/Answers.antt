@@ -1,37 +1,24 @@
--- `ch450::writer::tested` meets its contract. The invariant: what the test says of the rest it says of the whole.
+-- `ch450::writer::tested` meets its contract: the first word that is not writable is the lowest.
 -- Assumes nothing.
-use mathlib.Core.Path.{refl, sym, ◌∙◌}
-use borrow.Author.Tests.{not-true, not-false}
-use Rattle.ch450.proofs.Tests.{words_more, words_bad, words_over, list_long, list_short}
-use borrow.Author.Rules.{rules}
+use Rattle.std.proofs.Common.{rules, tests, ◌≡◌, ◌∙◌, sym, ap, position}
+use Rattle.std.proofs.lemmas.Iterator.{YieldsList-from_slice}
+use Rattle.std.proofs.lemmas.Iterator.Search.{position_from_yields_List}
+use Rattle.ch450.proofs.Tests.{told_first, is_bad, first_bad, list_long, list_short}
 use Rattle.ch450.proofs.writer.tested.Goals as goal
 
 pub returns-then-words-gt-MOST_COMMANDS : goal.returns-then-words-gt-MOST_COMMANDS
 returns-then-words-gt-MOST_COMMANDS c = sym (list_long c.args.words.now c.if-words-gt-MOST_COMMANDS.true)
 
-pub loop-i-init : goal.loop-i-init
-loop-i-init c = (search rules, refl)
-
-pub returns-then-not-is_writable : goal.returns-then-not-is_writable
-returns-then-not-is_writable c =
-    let w = c.is_writable in
-    let l = c.loop-i in
+pub returns-in-Some : goal.returns-in-Some
+returns-in-Some c =
     let ws = c.args.words.now in
-    sym (words_bad ws l.i c.loop-i-test.true (sym w.ensures ∙ not-true w.result c.if-not-is_writable.true-raw))
-    ∙ l.invariant.1
-    ∙ sym (list_short ws c.if-words-gt-MOST_COMMANDS.false)
+    let p : c.position.result ≡ position is_bad ws =
+    position_from_yields_List is_bad _ _ c.position.result c.position.ensures.ran (YieldsList-from_slice ws cc) (λ x b q k. search (rules, tests)) in
+    ap told_first (sym c.in-Some.is ∙ p) ∙ sym (first_bad ws) ∙ sym (list_short ws c.if-words-gt-MOST_COMMANDS.false)
 
-pub loop-i-preserved : goal.loop-i-preserved
-loop-i-preserved c =
-    let w = c.is_writable in
-    let l = c.loop-i in
-    let ws = c.args.words.now in (
-      search rules,
-      sym (words_more ws l.i c.loop-i-test.true (sym w.ensures ∙ not-false w.result c.if-not-is_writable.false-raw)) ∙ l.invariant.1,
-    )
-
-pub returns : goal.returns
-returns c =
-    let l = c.loop-i in
+pub returns-in-None : goal.returns-in-None
+returns-in-None c =
     let ws = c.args.words.now in
-    sym (words_over ws l.i c.loop-i-test.false) ∙ l.invariant.1 ∙ sym (list_short ws c.if-words-gt-MOST_COMMANDS.false)
+    let p : c.position.result ≡ position is_bad ws =
+    position_from_yields_List is_bad _ _ c.position.result c.position.ensures.ran (YieldsList-from_slice ws cc) (λ x b q k. search (rules, tests)) in
+    ap told_first (sym c.in-None.is ∙ p) ∙ sym (first_bad ws) ∙ sym (list_short ws c.if-words-gt-MOST_COMMANDS.false)

@@ -15,28 +15,28 @@ pub returns-then-not-is_legal : goal.returns-then-not-is_legal
 unfolding E.applied_of
 returns-then-not-is_legal c =
     sym
-    (by_done _ _ c.tested-test.ensures c.in-Done.is
+    (by_done _ _ c.tested.ensures c.in_default.is
     ∙ pick_no _ _ (sym c.is_legal.ensures ∙ not-true c.is_legal.result c.if-not-is_legal.true-raw))
 
 pub returns-then-k-n : goal.returns-then-k-n
 unfolding E.applied_of
 returns-then-k-n c =
     sym
-    (by_done _ _ c.tested-test.ensures c.in-Done.is
+    (by_done _ _ c.tested.ensures c.in_default.is
     ∙ pick_yes _ _ (sym c.is_legal.ensures ∙ not-false c.is_legal.result c.if-not-is_legal.false-raw)
     ∙ pick_no _ _ (le-ltb _ _ c.if-k-n.true))
 
-pub returns-in-Refused : goal.returns-in-Refused
+pub returns-in-Err : goal.returns-in-Err
 unfolding E.applied_of
-returns-in-Refused c = sym (by_refusal _ _ c.tested-test.ensures c.in-Refused.is)
+returns-in-Err c = sym (by_refusal _ _ c.tested.ensures c.in-Err.is)
 
-pub returns-else-k-n : goal.returns-else-k-n
+pub returns : goal.returns
 unfolding E.applied_of
-returns-else-k-n c =
+returns c =
     let a = c.args in
     ap (λ (ch : Chain). record { state = ch; told = done tt })
     (c.with_chip.ensures ∙ ap (λ (d : Chip). E.with_chip a.k d a.chain) (c.applied-after.ensures ∙ ap (applied a.command) c.chip_at.ensures))
     ∙ sym
-    (by_done _ _ c.tested-test.ensures c.in-Done.is
+    (by_done _ _ c.tested.ensures c.in_default.is
     ∙ pick_yes _ _ (sym c.is_legal.ensures ∙ not-false c.is_legal.result c.if-not-is_legal.false-raw)
     ∙ pick_yes _ _ (lt-ltb _ _ c.if-k-n.false))

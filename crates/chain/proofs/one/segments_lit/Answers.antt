@@ -3,23 +3,18 @@
 use mathlib.Core.Path.{ap, sym, ◌∙◌}
 use mathlib.Core.List.{List}
 use Prim.Native.Nat.{ℕ}
-use borrow.Author.Tests.{lt-ltb, le-ltb}
 use Rattle.base.specs.Refusals.{done}
-use Rattle.base.proofs.Picks.{pick_yes, pick_no}
 use Rattle.base.proofs.Refusals.{by_done, by_refusal}
 use Rattle.chip.specs.Segments.{lit_of}
+use Rattle.chain.proofs.Tested.{at_chip}
 use Rattle.chain.proofs.one.segments_lit.Goals as goal
 
-pub returns-then-k-n : goal.returns-then-k-n
+pub returns-in-Err : goal.returns-in-Err
 unfolding Rattle.chain.specs.Entries.segments_of
-returns-then-k-n c = sym (by_done _ _ c.tested-test.ensures c.in-Done.is ∙ pick_no _ _ (le-ltb _ _ c.if-k-n.true))
+returns-in-Err c = sym (at_chip c.args.n c.args.chain c.args.k _ _ ∙ by_refusal _ _ c.tested_at.ensures c.in-Err.is)
 
-pub returns-in-Refused : goal.returns-in-Refused
+pub returns : goal.returns
 unfolding Rattle.chain.specs.Entries.segments_of
-returns-in-Refused c = sym (by_refusal _ _ c.tested-test.ensures c.in-Refused.is)
-
-pub returns-else-k-n : goal.returns-else-k-n
-unfolding Rattle.chain.specs.Entries.segments_of
-returns-else-k-n c =
+returns c =
     ap (λ (ds : List ℕ). record { state = ds; told = done tt }) (c.lit.ensures ∙ ap lit_of c.chip_at.ensures)
-    ∙ sym (by_done _ _ c.tested-test.ensures c.in-Done.is ∙ pick_yes _ _ (lt-ltb _ _ c.if-k-n.false))
+    ∙ sym (at_chip c.args.n c.args.chain c.args.k _ _ ∙ by_done _ _ c.tested_at.ensures c.in_default.is)

@@ -9,8 +9,8 @@ pub returns-then-segs-eq0 : goal.returns-then-segs-eq0
 returns-then-segs-eq0 c =
     sym (row_none c.args.bytes _ c.packed-contacts.ensures (sym c.closed_segs-segs.ensures ∙ c.if-segs-eq0.true))
 
-pub returns : goal.returns
-returns c =
+pub returns-else-segs-eq0 : goal.returns-else-segs-eq0
+returns-else-segs-eq0 c =
     let b = c in
     c.lowest.ensures
     ∙ ap (lowest_in b.packed-contacts.result) b.closed_segs-segs.ensures

@@ -13,7 +13,7 @@ pub slice_bounds-frame_of-end : goal.slice_bounds-frame_of-end
 slice_bounds-frame_of-end c = sym (length-take-le 4 c.args.text.now (omega arith))
 
 pub returns-then-bytes-ne32 : goal.returns-then-bytes-ne32
-returns-then-bytes-ne32 c = sym (version_other c.args.text.now c.frame_of-frame.result c.frame_of-frame.ensures c.if-bytes-ne32.true)
+returns-then-bytes-ne32 c = sym (version_other c.args.text.now c.frame_of.result c.frame_of.ensures c.if-bytes-ne32.true)
 
 pub returns : goal.returns
-returns c = sym (version_so c.args.text.now c.frame_of-frame.result c.frame_of-frame.ensures c.if-bytes-ne32.false)
+returns c = sym (version_so c.args.text.now c.frame_of.result c.frame_of.ensures c.if-bytes-ne32.false)

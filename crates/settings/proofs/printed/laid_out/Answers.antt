@@ -29,8 +29,8 @@ slice_bounds-write-end c = puts_counted c.words-count.ensures
 pub refused-requires : goal.refused-requires
 refused-requires c = omega (arith, c.requires.in_bounds)
 
-pub overflow_cast-first : goal.overflow_cast-first
-overflow_cast-first c =
+pub overflow_cast-kiosk : goal.overflow_cast-kiosk
+overflow_cast-kiosk c =
     let a = c.args in
     let few = (count_within a.kiosk.n (passes a.kiosk c.requires.kiosk_value).chips).few in
     record { fits = omega arith }
@@ -39,36 +39,36 @@ pub slice_bounds-samples-end : goal.slice_bounds-samples-end
 slice_bounds-samples-end c =
     let a = c.args in
     let size : length a.kiosk.chips ≡ most = search (rules, length_mapped) in
-    let few = many_few a.kiosk c.requires.kiosk_value size (puts_taken c.words-count.ensures) c.write-written.ensures refl c.in-Samples.is in
+    let few = many_few a.kiosk c.requires.kiosk_value size (puts_taken c.words-count.ensures) c.write.ensures refl c.in-Ok.is in
     search (rules, few)
 
 pub slice_bounds-sample_lines-end : goal.slice_bounds-sample_lines-end
 slice_bounds-sample_lines-end c =
     let a = c.args in
     let size : length a.kiosk.chips ≡ most = search (rules, length_mapped) in
-    row_counted a.kiosk c.requires.kiosk_value size (puts_taken c.words-count.ensures) c.write-written.ensures refl c.in-Samples.is
+    row_counted a.kiosk c.requires.kiosk_value size (puts_taken c.words-count.ensures) c.write.ensures refl c.in-Ok.is
 
 pub sample_lines-requires : goal.sample_lines-requires
 sample_lines-requires c =
     let a = c.args in
     let size : length a.kiosk.chips ≡ most = search (rules, length_mapped) in
     let same = puts_taken c.words-count.ensures in
-    let samples = row_written a.kiosk c.requires.kiosk_value size same c.write-written.ensures refl c.in-Samples.is in
+    let samples = row_written a.kiosk c.requires.kiosk_value size same c.write.ensures refl c.in-Ok.is in
     let first = line_put (0x00 ∷ 0x01 ∷ a.kiosk.n ∷ []) refl (head_fits a.kiosk c.requires.kiosk_value size a.out.now c.requires.in_bounds) c.put_line-at.ensures in
     samples_fit a.kiosk c.requires.kiosk_value size a.out.now c.requires.in_bounds first samples
 
-pub returns-in-Refused : goal.returns-in-Refused
-returns-in-Refused c =
+pub returns-in-Err : goal.returns-in-Err
+returns-in-Err c =
     let a = c.args in
     let size : length a.kiosk.chips ≡ most = search (rules, length_mapped) in
-    prints_refused (row_refused a.kiosk c.requires.kiosk_value size (puts_taken c.words-count.ensures) c.write-written.ensures refl c.in-Refused.is) c.refused.ensures
+    prints_refused (row_refused a.kiosk c.requires.kiosk_value size (puts_taken c.words-count.ensures) c.write.ensures refl c.in-Err.is) c.refused.ensures
 
-pub returns-in-Samples : goal.returns-in-Samples
-returns-in-Samples c =
+pub returns : goal.returns
+returns c =
     let a = c.args in
     let size : length a.kiosk.chips ≡ most = search (rules, length_mapped) in
-    let w = c.write-written in
-    let q = c.in-Samples.is in
+    let w = c.write in
+    let q = c.in-Ok.is in
     let same = puts_taken c.words-count.ensures in
     let done-so = row_done a.kiosk c.requires.kiosk_value size same w.ensures refl q in
     let samples = row_written a.kiosk c.requires.kiosk_value size same w.ensures refl q in

@@ -10,12 +10,12 @@ refused-requires c = omega (arith, c.requires)
 
 pub laid_out-requires : goal.laid_out-requires
 laid_out-requires c =
-    let r = c.read-read in
+    let r = c.read-answer in
     let text = c.args.text.now in
-    record { kiosk_value = (read_written text r.result.kiosk (read_done text r.ensures c.in-Done.is)).1; in_bounds = c.requires }
+    record { kiosk_value = (read_written text r.result.value (read_done text r.ensures c.in-Ok.is)).1; in_bounds = c.requires }
 
-pub returns-in-Refused : goal.returns-in-Refused
-returns-in-Refused c = setup_refused c.args.text.now c.read-read.ensures c.in-Refused.is c.refused.ensures
+pub returns-in-Err : goal.returns-in-Err
+returns-in-Err c = setup_refused c.args.text.now c.read-answer.ensures c.in-Err.is c.refused.ensures
 
-pub returns-in-Done : goal.returns-in-Done
-returns-in-Done c = setup_so c.args.text.now c.read-read.ensures c.in-Done.is c.laid_out.ensures
+pub returns-in-Ok : goal.returns-in-Ok
+returns-in-Ok c = setup_so c.args.text.now c.read-answer.ensures c.in-Ok.is c.laid_out.ensures

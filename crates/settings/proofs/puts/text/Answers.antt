@@ -14,8 +14,8 @@ use Rattle.settings.proofs.Wholes.{first_fits, lines_fit, text_put}
 use borrow.Author.Rules.{rules}
 use Rattle.settings.proofs.puts.text.Goals as goal
 
-pub overflow_cast-bytes : goal.overflow_cast-bytes
-overflow_cast-bytes c = record { fits = omega (arith, (count_within c.args.kiosk.n (passes c.args.kiosk c.requires.kiosk_value).chips).few) }
+pub overflow_cast-n : goal.overflow_cast-n
+overflow_cast-n c = record { fits = omega (arith, (count_within c.args.kiosk.n (passes c.args.kiosk c.requires.kiosk_value).chips).few) }
 
 pub chip_lines-requires : goal.chip_lines-requires
 chip_lines-requires c =

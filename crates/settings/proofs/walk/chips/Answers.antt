@@ -31,13 +31,13 @@ slice_bounds-frame_of-end c = omega (arith, c.line_end-end.ensures)
 
 pub slice_bounds-bytes-end : goal.slice_bounds-bytes-end
 slice_bounds-bytes-end c =
-    let f = c.frame_of-frame in
+    let f = c.frame_of-count in
     let big : length f.result.bytes ≡ 33 = search rules in
     omega (arith, frame_count c.args.text.now c.loop-k.place c.line_end-end.result f.result f.ensures)
 
 pub slice_bounds-is_chip-end : goal.slice_bounds-is_chip-end
 slice_bounds-is_chip-end c =
-    let f = c.frame_of-frame in
+    let f = c.frame_of-count in
     let big : length f.result.bytes ≡ 33 = search rules in
     let few = frame_count c.args.text.now c.loop-k.place c.line_end-end.result f.result f.ensures in
     sym (length-take-le f.result.count f.result.bytes (omega arith))
@@ -46,31 +46,31 @@ pub returns-then-not-is_chip : goal.returns-then-not-is_chip
 returns-then-not-is_chip c =
     c.refused-then-not-is_chip.ensures
     ∙ ap (kiosk_by c.args.n)
-    (left_refused c.loop-k.invariant c.loop-k-test.true c.line_end-end.result c.line_end-end.ensures c.if-end-text.false c.frame_of-frame.result c.frame_of-frame.ensures
+    (left_refused c.loop-k.invariant c.loop-k-test.true c.line_end-end.result c.line_end-end.ensures c.if-end-text.false c.frame_of-count.result c.frame_of-count.ensures
     (sym c.is_chip.ensures ∙ not-true c.is_chip.result c.if-not-is_chip.true-raw))
 
 pub slice_bounds-bytes-end-in-loop-k : goal.slice_bounds-bytes-end-in-loop-k
 slice_bounds-bytes-end-in-loop-k c =
-    let f = c.frame_of-frame in
+    let f = c.frame_of-count in
     let big : length f.result.bytes ≡ 33 = search rules in
     omega (arith, frame_count c.args.text.now c.loop-k.place c.line_end-end.result f.result f.ensures)
 
 pub slice_bounds-kept_by-end : goal.slice_bounds-kept_by-end
 slice_bounds-kept_by-end c =
-    let f = c.frame_of-frame in
+    let f = c.frame_of-count in
     let big : length f.result.bytes ≡ 33 = search rules in
     let few = frame_count c.args.text.now c.loop-k.place c.line_end-end.result f.result f.ensures in
     sym (length-take-le f.result.count f.result.bytes (omega arith))
 
-pub kept_by-own-requires : goal.kept_by-own-requires
-kept_by-own-requires c =
-    let f = c.frame_of-frame in
+pub kept_by-requires : goal.kept_by-requires
+kept_by-requires c =
+    let f = c.frame_of-count in
     omega (arith, chip_six c.loop-k.k (held_by f.result) (sym c.is_chip.ensures ∙ not-false c.is_chip.result c.if-not-is_chip.false-raw))
 
 pub loop-k-preserved : goal.loop-k-preserved
 loop-k-preserved c =
-    left_more c.loop-k.invariant c.loop-k-test.true c.line_end-end.result c.line_end-end.ensures c.if-end-text.false c.frame_of-frame.result c.frame_of-frame.ensures
-    (sym c.is_chip.ensures ∙ not-false c.is_chip.result c.if-not-is_chip.false-raw) c.kept_by-own.ensures
+    left_more c.loop-k.invariant c.loop-k-test.true c.line_end-end.result c.line_end-end.ensures c.if-end-text.false c.frame_of-count.result c.frame_of-count.ensures
+    (sym c.is_chip.ensures ∙ not-false c.is_chip.result c.if-not-is_chip.false-raw) c.kept_by.ensures
 
 pub returns-then-place-text : goal.returns-then-place-text
 returns-then-place-text c = c.refused-then-place-text.ensures ∙ ap (kiosk_by c.args.n) (left_extra c.loop-k.invariant c.loop-k-test.false c.if-place-text.true)

@@ -1,6 +1,6 @@
 -- `streams::raw::fed` meets its contract. The invariant is `Walked`: what is left of the block steps to what the whole steps to.
 -- Assumes nothing.
-use Rattle.std.proofs.Common.{sym, ◌∙◌, arith, rules}
+use Rattle.std.proofs.Common.{sym, ◌∙◌, rules}
 use Rattle.streams.proofs.Goes.{goes_over}
 use Rattle.streams.proofs.RawLoop.{walked_start, run_within, run_counted, run_some, run_room, byte_room, walked_run, walked_byte, walked_stop}
 use Rattle.streams.proofs.raw.fed.Goals as goal
@@ -25,12 +25,6 @@ overflow_add-i c =
     let r = c.run-ran in
     search (rules, run_within l.invariant c.loop-i-test.true r.ensures)
 
-pub loop-i-smaller-then-starts_run : goal.loop-i-smaller-then-starts_run
-loop-i-smaller-then-starts_run c =
-    let l = c.loop-i in
-    let r = c.run-ran in
-    omega (arith, r.ensures.some, c.loop-i-test.true)
-
 pub loop-i-preserved-then-starts_run : goal.loop-i-preserved-then-starts_run
 loop-i-preserved-then-starts_run c =
     let l = c.loop-i in
@@ -43,17 +37,11 @@ one_byte-step-requires c =
     let s = c.starts_run in
     record { b_value = sym s.ensures ∙ c.if-starts_run.false; at_in_bounds = byte_room l.invariant c.loop-i-test.true }
 
-pub shape_of-out-then-step : goal.shape_of-out-then-step
-shape_of-out-then-step c = search (rules, c.loop-i.invariant.goes.fills.size)
-
 pub returns-then-step : goal.returns-then-step
 returns-then-step c = walked_stop c.loop-i.invariant c.loop-i-test.true c.one_byte-step.ensures c.if-step.true
 
 pub loop-i-preserved : goal.loop-i-preserved
 loop-i-preserved c = walked_byte c.loop-i.invariant c.loop-i-test.true c.one_byte-step.ensures c.if-step.false
-
-pub shape_of-out : goal.shape_of-out
-shape_of-out c = c.loop-i.invariant.goes.fills.size
 
 pub returns : goal.returns
 returns c = goes_over _ c.loop-i.invariant.goes c.loop-i-test.false

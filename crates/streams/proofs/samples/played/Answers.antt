@@ -1,5 +1,6 @@
 -- `streams::samples::played` meets its contract.
 -- Assumes nothing.
+use Rattle.std.proofs.Common.{refl}
 use Rattle.streams.proofs.Stepping.{samples_made}
 use Rattle.streams.proofs.samples.played.Goals as goal
 
@@ -7,4 +8,4 @@ pub returns : goal.returns
 returns c =
     let a = c.args in
     let p = c.requires in
-    samples_made a.what a.state a.levels.now p.n_value p.all_below p.dout_value p.levels_in_bounds c.samples-took.ensures c.wrapping_add_u64.ensures.value c.none.ensures
+    samples_made a.what a.state a.levels.now p.n_value p.all_below p.dout_value p.levels_in_bounds c.samples-took.ensures refl c.none.ensures

@@ -1,58 +1,23 @@
 -- `streams::samples::run` meets its contract: before one has a recorded DOUT as they stand, and with the looks from then on.
 -- Assumes nothing.
-use Rattle.std.proofs.Common.{sym, ◌∙◌, arith, rules}
-use Rattle.streams.proofs.Runs.{plain_fits, plain_few, plain_all, plain_played, run_rest, rest_run}
+use Rattle.std.proofs.Common.{sym, arith, length-take-le}
+use Rattle.streams.proofs.Runs.{plain_fits, plain_few, plain_all, plain_played, rest_run, run_rest}
 use Rattle.streams.proofs.samples.run.Goals as goal
 
-pub slice_bounds-looked-count : goal.slice_bounds-looked-count
-slice_bounds-looked-count c = search (rules, c.requires.from_in_bounds)
-
-pub slice_bounds-looked-start : goal.slice_bounds-looked-start
-slice_bounds-looked-start c = search (rules, c.requires.from_in_bounds)
-
-pub looked-requires : goal.looked-requires
-looked-requires c =
-    let a = c.args in
-    let p = c.requires in
-    let r = rest_run a.bytes.now a.from a.at a.out.now p.bound p.bytes_in_bounds in
-    record { n_value = p.n_value; bound = r.0; bytes_in_bounds = r.1 }
-
-pub returns-then-is_looking : goal.returns-then-is_looking
-returns-then-is_looking c =
-    let a = c.args in
-    run_rest a.bytes.now a.from c.looked.ensures
-
-pub slice_bounds-looked-count-then-end-from : goal.slice_bounds-looked-count-then-end-from
-slice_bounds-looked-count-then-end-from c = search (rules, c.requires.from_in_bounds)
-
-pub slice_bounds-looked-start-then-end-from : goal.slice_bounds-looked-start-then-end-from
-slice_bounds-looked-start-then-end-from c = search (rules, c.requires.from_in_bounds)
-
-pub looked-requires-then-end-from : goal.looked-requires-then-end-from
-looked-requires-then-end-from c =
-    let a = c.args in
-    let p = c.requires in
-    let r = rest_run a.bytes.now a.from a.at a.out.now p.bound p.bytes_in_bounds in
-    record { n_value = p.n_value; bound = r.0; bytes_in_bounds = r.1 }
-
-pub returns-then-end-from : goal.returns-then-end-from
-returns-then-end-from c =
-    let a = c.args in
-    run_rest a.bytes.now a.from c.looked-then-end-from.ensures
-
 pub slice_bounds-played-end : goal.slice_bounds-played-end
-slice_bounds-played-end c =
-    let a = c.args in
-    plain_fits a.bytes.now a.from c.plain_end-end.result c.plain_end-end.ensures c.requires.from_in_bounds
+slice_bounds-played-end c = sym (length-take-le c.plain_length-count.result _ (plain_fits _ c.plain_length-count.ensures))
 
-pub played-requires : goal.played-requires
-played-requires c =
+pub played-requires-clause-all_below : goal.played-requires-clause-all_below
+played-requires-clause-all_below c = plain_all _ c.plain_length-count.ensures
+
+pub played-requires-clause-levels_in_bounds : goal.played-requires-clause-levels_in_bounds
+played-requires-clause-levels_in_bounds c =
     let a = c.args in
     let p = c.requires in
-    let e = c.plain_end-end in record { n_value = p.n_value; all_below = plain_all a.bytes.now a.from e.result e.ensures; dout_value = sym c.is_looking.ensures ∙ c.if-is_looking.false; levels_in_bounds = omega (arith, plain_few a.bytes.now a.from e.result e.ensures, p.bytes_in_bounds) }
+    let r = rest_run a.bytes.now a.from a.at a.out.now p.bound p.bytes_in_bounds in
+    omega (arith, plain_few _ c.plain_length-count.ensures, r.0, r.1)
 
-pub returns : goal.returns
-returns c =
+pub returns-then-count-gt0 : goal.returns-then-count-gt0
+returns-then-count-gt0 c =
     let a = c.args in
-    let e = c.plain_end-end in
-    plain_played a.bytes.now a.from e.result e.ensures c.if-end-from.false c.played.ensures
+    run_rest a.bytes.now a.from (plain_played _ c.plain_length-count.ensures c.if-count-gt0.true c.played.ensures)

@@ -11,20 +11,20 @@ use Rattle.tallies.proofs.Rises.{code_past, code_store}
 use borrow.Author.Rules.{rules}
 use Rattle.tallies.proofs.adds.one_more.Goals as goal
 
-pub returns-then-at-ge128 : goal.returns-then-at-ge128
-returns-then-at-ge128 c =
+pub returns-else-at-lt128 : goal.returns-else-at-lt128
+returns-else-at-lt128 c =
     let a = c.args in
     let size : length a.codes ≡ 128 = search rules in
     code_past a.code a.codes (omega arith)
 
-pub overflow_add-more : goal.overflow_add-more
-overflow_add-more c =
+pub overflow_add-next : goal.overflow_add-next
+overflow_add-next c =
     let a = c.args in
     let size : length a.codes ≡ 128 = search rules in
     omega (arith, leb-true (get_or a.codes a.code 0 + 1) largest_count (every_at (has_room 1) a.codes a.code 0 c.requires (omega arith)))
 
-pub returns : goal.returns
-returns c =
+pub returns-then-at-lt128 : goal.returns-then-at-lt128
+returns-then-at-lt128 c =
     let a = c.args in
     let size : length a.codes ≡ 128 = search rules in
     code_store a.code a.codes (omega arith)

@@ -15,8 +15,8 @@ loop-k-init c =
     let a = c.args in
     rising_start a.n a.before.chips a.after.chips a.tally.chips (search (rules, length_mapped)) (fits_parts 1 a.tally c.requires.tally_value).0
 
-pub obeys-more-requires : goal.obeys-more-requires
-obeys-more-requires c = rising_room c.loop-k.invariant c.requires.n_le_most c.loop-k-test.true _
+pub obeys-requires : goal.obeys-requires
+obeys-requires c = rising_room c.loop-k.invariant c.requires.n_le_most c.loop-k-test.true _
 
 pub loop-k-preserved : goal.loop-k-preserved
 loop-k-preserved c =
@@ -25,7 +25,7 @@ loop-k-preserved c =
     let l = c.loop-k in
     let befores : length a.before.chips ≡ most = search (rules, length_mapped) in
     let afters : length a.after.chips ≡ most = search (rules, length_mapped) in
-    rising_more l.invariant p.n_le_most c.loop-k-test.true befores afters _ _ _ c.obeys-more.result c.obeys-more.ensures
+    rising_more l.invariant p.n_le_most c.loop-k-test.true befores afters _ _ _ c.obeys.result c.obeys.ensures
 
 pub returns : goal.returns
 unfolding risen

@@ -16,15 +16,15 @@ use Rattle.tallies.proofs.Steps.{record_few}
 use borrow.Author.Rules.{rules}
 use Rattle.tallies.proofs.adds.scan.Goals as goal
 
-pub plus-more-requires : goal.plus-more-requires
-plus-more-requires c =
+pub plus-requires : goal.plus-requires
+plus-requires c =
     let a = c.args in
     let p = c.requires in
     let size : length a.tally.chips ≡ most = search (rules, length_mapped) in
     record { a_value = every_at (have_room 1) a.tally.chips a.k _ (fits_parts 1 a.tally p.tally_value).0 (omega (arith, p.k_lt_most)); at_most_one = subst AtMostOne (sym c.of_record.ensures) (record_few (recording_of a.what)) }
 
-pub codes_after-codes-requires : goal.codes_after-codes-requires
-codes_after-codes-requires c = (fits_parts 1 c.args.tally c.requires.tally_value).1
+pub codes_after-requires : goal.codes_after-requires
+codes_after-requires c = (fits_parts 1 c.args.tally c.requires.tally_value).1
 
 pub returns : goal.returns
 unfolding scanned_tally
@@ -32,5 +32,5 @@ returns c =
     let a = c.args in
     let p = c.requires in
     let size : length a.tally.chips ≡ most = search (rules, length_mapped) in
-    let chips = ap (set a.tally.chips a.k) (c.plus-more.ensures ∙ ap (plus _) c.of_record.ensures) ∙ chip_store a.k (record_counts (recording_of a.what)) a.tally.chips _ (omega (arith, p.k_lt_most)) in
-    λ i. record { chips = chips i; codes = c.codes_after-codes.ensures i; largest = a.tally.largest }
+    let chips = ap (set a.tally.chips a.k) (c.plus.ensures ∙ ap (plus _) c.of_record.ensures) ∙ chip_store a.k (record_counts (recording_of a.what)) a.tally.chips _ (omega (arith, p.k_lt_most)) in
+    λ i. record { chips = chips i; codes = c.codes_after.ensures i; largest = a.tally.largest }

@@ -2,25 +2,13 @@
 -- Assumes nothing.
 use mathlib.Core.Path.{ap, sym, ◌∙◌}
 use mathlib.Core.List.{[], ◌∷◌}
-use native.Mathlib.Nat.{lt_of_lt_of_le}
-use borrow.Author.Tests.{not-true, not-false}
+use borrow.Author.Tests.{not-false}
 use Rattle.chip.specs.Scans.{ScanLeaves}
 use Rattle.chain.specs.Events.{scan}
 use Rattle.tallies.specs.Parts.{scanned_tally}
 use Rattle.tallies.proofs.Scanning.{one_scan}
-use Rattle.tallies.proofs.Taken.{full_line, counted_line_lem}
+use Rattle.tallies.proofs.Taken.{counted_line_lem}
 use Rattle.tallies.proofs.walk.scan_line.Goals as goal
-
-pub returns-then-not-fits : goal.returns-then-not-fits
-returns-then-not-fits c =
-    let a = c.args in
-    full_line a.n a.number a.state (scan a.k a.bytes ∷ []) (sym c.fits.ensures ∙ not-true c.fits.result c.if-not-fits.true-raw)
-
-pub scan-requires : goal.scan-requires
-scan-requires c =
-    let p = c.requires in
-    let f = c.fits in
-    record { k_lt_most = lt_of_lt_of_le p.k_lt_n p.n_le_most; tally_value = sym f.ensures ∙ not-false f.result c.if-not-fits.false-raw }
 
 pub returns : goal.returns
 returns c =

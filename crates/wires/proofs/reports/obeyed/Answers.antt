@@ -15,32 +15,32 @@ pub command_lines-requires : goal.command_lines-requires
 command_lines-requires c =
     let s = c in
     let a = s.args in
-    let e = by_commands a.what a.key a.first a.second a.meaning a.panel c.in-Commands.is c.in-Means.field-0 c.in-Means.is c.is_read-read.ensures in
+    let e = by_commands a.what a.key a.first a.second a.meaning a.panel c.in-Commands.is c.in-Some.field-0 c.in-Some.is c.is_read-read.ensures in
     subst (λ (piece : List _). a.at + length piece ≤ length a.out.now) e s.requires
 
 pub screen_line-requires : goal.screen_line-requires
 screen_line-requires c =
     let s = c in
     let a = s.args in
-    let e = by_screen a.what a.key a.first a.second a.meaning a.panel c.in-Screen.is c.in-Means.field-0 c.in-Means.is in
+    let e = by_screen a.what a.key a.first a.second a.meaning a.panel c.in-Screen.is c.in-Some.field-0 c.in-Some.is in
     let six : length a.panel.digits ≡ 6 = search rules in
     omega (arith, ap length e, screen_length a.panel six, s.requires)
 
-pub returns-in-Nothing : goal.returns-in-Nothing
-returns-in-Nothing c =
+pub returns-in-None : goal.returns-in-None
+returns-in-None c =
     let a = c.args in
-    puts_as (by_none a.what a.key a.first a.second a.meaning a.panel c.in-Nothing.is) (none_put a.at a.out.now)
+    puts_as (by_none a.what a.key a.first a.second a.meaning a.panel c.in-None.is) (none_put a.at a.out.now)
 
 pub returns-in-Commands : goal.returns-in-Commands
 returns-in-Commands c =
     let a = c.args in
     puts_as
-    (by_commands a.what a.key a.first a.second a.meaning a.panel c.in-Commands.is c.in-Means.field-0 c.in-Means.is c.is_read-read.ensures)
+    (by_commands a.what a.key a.first a.second a.meaning a.panel c.in-Commands.is c.in-Some.field-0 c.in-Some.is c.is_read-read.ensures)
     c.command_lines.ensures
 
 pub returns-in-Screen : goal.returns-in-Screen
 returns-in-Screen c =
     let a = c.args in
     puts_as
-    (by_screen a.what a.key a.first a.second a.meaning a.panel c.in-Screen.is c.in-Means.field-0 c.in-Means.is)
+    (by_screen a.what a.key a.first a.second a.meaning a.panel c.in-Screen.is c.in-Some.field-0 c.in-Some.is)
     c.screen_line.ensures

@@ -12,17 +12,17 @@ pub obeyed-requires : goal.obeyed-requires
 obeyed-requires c =
     let s = c in
     let a = s.args in
-    let e = by_bytes a.what a.key a.transfer a.panel _ _ c.in-Bytes.is c.meaning_of-meaning.ensures in
+    let e = by_bytes a.what a.key a.transfer a.panel _ _ c.in-Some.is c.meaning_of-meaning.ensures in
     subst (λ (piece : List _). a.at + length piece ≤ length a.out.now) e s.requires
 
-pub returns-in-Nothing : goal.returns-in-Nothing
-returns-in-Nothing c =
+pub returns-in_default : goal.returns-in_default
+returns-in_default c =
     let a = c.args in
-    puts_as (by_nothing a.what a.key a.transfer a.panel c.in-Nothing.is) (none_put a.at a.out.now)
+    puts_as (by_nothing a.what a.key a.transfer a.panel c.in_default.is) (none_put a.at a.out.now)
 
-pub returns-in-Bytes : goal.returns-in-Bytes
-returns-in-Bytes c =
+pub returns : goal.returns
+returns c =
     let a = c.args in
     puts_as
-    (by_bytes a.what a.key a.transfer a.panel _ _ c.in-Bytes.is c.meaning_of-meaning.ensures)
+    (by_bytes a.what a.key a.transfer a.panel _ _ c.in-Some.is c.meaning_of-meaning.ensures)
     c.obeyed.ensures

@@ -2,7 +2,7 @@
 -- levels.
 -- Assumes nothing.
 use mathlib.Core.Path.{◌≡◌}
-use Prim.Native.Nat.{◌*◌, ◌-◌, ◌≤◌}
+use Prim.Native.Nat.{◌*◌}
 use lib.ListN.{length}
 use Rattle.base.specs.Lent.{placed}
 use Rattle.zhaqsumir.specs.Panels.{row_numbers}
@@ -10,7 +10,4 @@ use Rattle.zhaqsumir.proofs.chains.put_all.Given as goal
 
 abbrev pub invariant-loop-k : goal.invariant-loop-k
 invariant-loop-k l =
-    (l.k ≤ l.count) × (l.k ≤ 8) × (length l.numbers ≡ length l.initial.numbers) × (length (row_numbers l.k l.chips) ≡ 25 * l.k) × (l.numbers ≡ placed 2 (row_numbers l.k l.chips) l.initial.numbers)
-
-abbrev pub decreases-loop-k : goal.decreases-loop-k
-decreases-loop-k l = l.count - l.k
+    (length l.numbers ≡ length l.initial.numbers) × (length (row_numbers l.k l.first) ≡ 25 * l.k) × (l.numbers ≡ placed 2 (row_numbers l.k l.first) l.initial.numbers)

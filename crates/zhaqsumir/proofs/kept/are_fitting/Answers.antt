@@ -1,40 +1,18 @@
--- `zhaqsumir::kept::are_fitting` meets its contract. The invariant: the numbers of the chips before this one fit.
+-- `zhaqsumir::kept::are_fitting` meets its contract: each chip below n is tested.
 -- Assumes nothing.
-use mathlib.Core.Path.{◌≡◌, refl, ap, ap₂, sym, subst, ◌∙◌}
-use mathlib.Core.Bool.{true, ◌&&◌}
-use Prim.Native.Nat.{ℕ, ◌+◌, ◌*◌}
-use native.Mathlib.Numerals.{add-one}
+use mathlib.Core.Path.{refl, ◌∙◌}
 use native.Mathlib.Omega.{arith}
-use borrow.Author.Tests.{not-true, not-false}
-use Rattle.base.specs.Below.{below}
-use Rattle.zhaqsumir.specs.Settings.{kept_fits, kept_fits_in}
-use Rattle.zhaqsumir.proofs.ChainRows.{part_rest}
-use Rattle.zhaqsumir.proofs.Fitting.{not_below}
 use borrow.Author.Rules.{rules}
+use Rattle.std.proofs.lemmas.Iterator.{YieldsList-from_range}
+use Rattle.std.proofs.lemmas.Iterator.Search.{all_from_yields_List}
+use Rattle.zhaqsumir.specs.Settings.{kept_fits_in}
+use Rattle.zhaqsumir.proofs.ChainRows.{part_rest}
+use Rattle.zhaqsumir.proofs.Fitting.{all_below}
 use Rattle.zhaqsumir.proofs.kept.are_fitting.Goals as goal
-
-pub loop-k-init : goal.loop-k-init
-loop-k-init c = (search rules, refl)
-
-pub returns-then-not-is_fitting : goal.returns-then-not-is_fitting
-returns-then-not-is_fitting c =
-    let a = c.args in
-    let k = c.loop-k.k in
-    let f = c.is_fitting in
-    let no = sym (f.ensures ∙ ap kept_fits (part_rest (1 + 9 * k) a.numbers.now)) ∙ not-true f.result c.if-not-is_fitting.true-raw in
-    sym (not_below (kept_fits_in a.numbers.now) a.n k c.loop-k-test.true no)
-
-pub loop-k-preserved : goal.loop-k-preserved
-loop-k-preserved c =
-    let a = c.args in
-    let l = c.loop-k in
-    let f = c.is_fitting in
-    let yes = sym (f.ensures ∙ ap kept_fits (part_rest (1 + 9 * l.k) a.numbers.now)) ∙ not-false f.result c.if-not-is_fitting.false-raw in
-    (search rules, ap (below (kept_fits_in a.numbers.now)) (add-one l.k) ∙ ap₂ ◌&&◌ yes l.invariant.1)
 
 pub returns : goal.returns
 returns c =
     let a = c.args in
-    let l = c.loop-k in
-    let all : l.k ≡ a.n = omega arith in
-    sym (subst (λ (n : ℕ). below (kept_fits_in a.numbers.now) n ≡ true) all l.invariant.1)
+    let places = YieldsList-from_range 0 a.n a.n refl (omega arith) in
+    all_from_yields_List (kept_fits_in a.numbers.now) c.all.new.self _ c.all.result c.all.ensures.ran places (λ x b q k. search (rules, part_rest))
+    ∙ all_below (kept_fits_in a.numbers.now) a.n

@@ -1,25 +1,14 @@
 -- `zhaqsumir::kept::kiosk_of` meets its contract: N, and eight chips, one after another.
 -- Assumes nothing.
-use mathlib.Core.List.{[], ◌∷◌}
+use borrow.Author.Rules.{rules}
 use Rattle.zhaqsumir.specs.Panels.{count_in}
+use Rattle.zhaqsumir.specs.Settings.{kept_in}
+use Rattle.zhaqsumir.proofs.Made.{made_places}
 use Rattle.zhaqsumir.proofs.kept.kiosk_of.Goals as goal
 
 pub returns : goal.returns
 unfolding Rattle.zhaqsumir.specs.Settings.kiosk_of
 returns c =
-    let s = c in
-    let a = s.args in
-    λ i.
-    record {
-      n = count_in a.numbers.now;
-      chips =
-          s.kept_in.ensures i
-          ∷ s.kept_in-2.ensures i
-          ∷ s.kept_in-3.ensures i
-          ∷ s.kept_in-4.ensures i
-          ∷ c.kept_in-5.ensures i
-          ∷ c.kept_in-6.ensures i
-          ∷ c.kept_in-7.ensures i
-          ∷ c.kept_in-8.ensures i
-          ∷ [];
-    }
+    let ns = c.args.numbers.now in
+    let chips = made_places (kept_in ns) c.from_fn.ensures.items (λ k y q h call. search rules) in
+    λ i. record { n = count_in ns; chips = chips i }

@@ -2,7 +2,7 @@
 -- Assumes nothing.
 use mathlib.Core.Path.{◌≡◌, refl, subst}
 use mathlib.Core.List.{List}
-use Prim.Native.Nat.{ℕ, ◌+◌, ◌≤◌, ◌<◌}
+use Prim.Native.Nat.{ℕ, ◌+◌, ◌≤◌}
 use native.Mathlib.Omega.{arith}
 use lib.ListN.{length, get_or}
 use Rattle.base.proofs.Lent.{fills_start}
@@ -28,37 +28,29 @@ fits_whole from cs out e h = omega (arith, chips_long cs)
 put_as : {piece same out out' : List ℕ} {at r : ℕ} → piece ≡ same → Puts piece at out r out' → Puts same at out r out'
 put_as {out = out} {out' = out'} {at = at} {r = r} e p = subst (λ xs. Puts xs at out r out') e p
 
-pub loop-k-init : goal.loop-k-init
-loop-k-init c =
-    let a = c.args in
-    (search (rules, length_mapped), fills_start a.from (lines_left own a.chips 0) a.numbers.now)
-
-pub bounds-chips-k : goal.bounds-chips-k
-bounds-chips-k c = omega (arith, c.loop-k.invariant.0, c.loop-k-test.true)
+pub loop-c-init : goal.loop-c-init
+loop-c-init c = fills_start c.args.from (lines_left own c.args.chips 0) c.args.numbers.now
 
 pub put-end-requires : goal.put-end-requires
 put-end-requires c =
     let a = c.args in
-    let l = c.loop-k in
-    let inside : l.k < length a.chips = omega (arith, l.invariant.0, c.loop-k-test.true) in
-    let all = fits_whole a.from a.chips a.numbers.now l.invariant.0 c.requires in
-    left_room own a.chips a.from a.numbers.now all l.invariant.1 no_kept (get_or a.chips l.k no_kept) inside refl
+    let l = c.loop-c in
+    let eight : length a.chips ≡ 8 = search (rules, length_mapped) in
+    let all = fits_whole a.from a.chips a.numbers.now eight c.requires in
+    left_room own a.chips a.from a.numbers.now all l.invariant no_kept (get_or a.chips l.c-index no_kept) (omega arith) refl
 
-pub loop-k-preserved : goal.loop-k-preserved
-loop-k-preserved c =
+pub loop-c-preserved : goal.loop-c-preserved
+loop-c-preserved c =
     let a = c.args in
-    let l = c.loop-k in
-    let n = c.numbers_of in
-    let inside : l.k < length a.chips = omega (arith, l.invariant.0, c.loop-k-test.true) in
-    let all = fits_whole a.from a.chips a.numbers.now l.invariant.0 c.requires in
-    (l.invariant.0, left_more own a.chips a.from a.numbers.now all l.invariant.1 _ _ inside refl (put_as n.ensures c.put-end.ensures))
-
-pub shape_of-numbers : goal.shape_of-numbers
-shape_of-numbers c = search (rules, c.loop-k.invariant.1.size)
+    let l = c.loop-c in
+    let eight : length a.chips ≡ 8 = search (rules, length_mapped) in
+    let all = fits_whole a.from a.chips a.numbers.now eight c.requires in
+    left_more own a.chips a.from a.numbers.now all l.invariant _ _ (omega arith) refl (put_as c.numbers_of.ensures c.put-end.ensures)
 
 pub returns : goal.returns
 returns c =
     let a = c.args in
-    let l = c.loop-k in
-    let all = fits_whole a.from a.chips a.numbers.now l.invariant.0 c.requires in
-    left_over own a.chips a.from a.numbers.now all l.invariant.1 (omega (arith, l.invariant.0, c.loop-k-test.false))
+    let l = c.loop-c in
+    let eight : length a.chips ≡ 8 = search (rules, length_mapped) in
+    let all = fits_whole a.from a.chips a.numbers.now eight c.requires in
+    left_over own a.chips a.from a.numbers.now all l.invariant (omega arith)

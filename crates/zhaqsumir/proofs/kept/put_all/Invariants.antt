@@ -1,9 +1,7 @@
 -- `zhaqsumir::kept::put_all` meets its contract. The invariant: the numbers of the chips left, put where the loop stands, make the whole.
 -- Assumes nothing.
-use mathlib.Core.Path.{◌≡◌}
 use mathlib.Core.List.{List}
-use Prim.Native.Nat.{ℕ, ◌-◌}
-use lib.ListN.{length}
+use Prim.Native.Nat.{ℕ}
 use Rattle.base.proofs.Lent.{Fills}
 use Rattle.lines.proofs.Each.{lines_left}
 use Rattle.settings.specs.declared.Kept.{Kept}
@@ -14,8 +12,6 @@ use Rattle.zhaqsumir.proofs.kept.put_all.Given as goal
 abbrev own : ℕ → Kept → List ℕ
 own k c = kept_numbers c
 
-abbrev pub invariant-loop-k : goal.invariant-loop-k
-invariant-loop-k l = (length l.chips ≡ 8) × Fills l.from (lines_left own l.chips 0) l.initial.numbers l.end (lines_left own l.chips l.k) l.numbers
-
-abbrev pub decreases-loop-k : goal.decreases-loop-k
-decreases-loop-k l = 8 - l.k
+abbrev pub invariant-loop-c : goal.invariant-loop-c
+invariant-loop-c l =
+    Fills l.from (lines_left own l.fn.chips 0) l.initial.numbers l.end (lines_left own l.fn.chips l.c-index) l.numbers

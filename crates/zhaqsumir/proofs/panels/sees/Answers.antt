@@ -8,14 +8,14 @@ use Rattle.chain.specs.Entries.{seen_of}
 use Rattle.zhaqsumir.specs.Panels.{count_in, chain_of, sees_by}
 use Rattle.zhaqsumir.proofs.panels.sees.Goals as goal
 
-pub returns-in-Refused : goal.returns-in-Refused
-returns-in-Refused c =
+pub returns-in-Err : goal.returns-in-Err
+returns-in-Err c =
     let ns = c.args.numbers.now in
     (λ i. c.number.ensures i ∷ c.place.ensures i ∷ 0 ∷ [])
-    ∙ sym (ap sees_by (by_refusal false (seen_of (count_in ns) (chain_of ns)) c.tested-test.ensures c.in-Refused.is))
+    ∙ sym (ap sees_by (by_refusal false (seen_of (count_in ns) (chain_of ns)) c.tested-test.ensures c.in-Err.is))
 
-pub returns-in-Done : goal.returns-in-Done
-returns-in-Done c =
+pub returns-in-Ok : goal.returns-in-Ok
+returns-in-Ok c =
     let ns = c.args.numbers.now in
     c.level.ensures ∙ ap sees_by (c.host_sees.ensures ∙ ap (seen_of (count_in ns)) c.chain_of.ensures)
-    ∙ sym (ap sees_by (by_done false (seen_of (count_in ns) (chain_of ns)) c.tested-test.ensures c.in-Done.is))
+    ∙ sym (ap sees_by (by_done false (seen_of (count_in ns) (chain_of ns)) c.tested-test.ensures c.in-Ok.is))

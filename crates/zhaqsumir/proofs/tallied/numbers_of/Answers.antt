@@ -1,15 +1,15 @@
--- `numbers_of` meets its contract: the eight chips' counts, one after another.
+-- `zhaqsumir::tallied::numbers_of` meets its contract: the eight chips' counts, one after another.
 -- Assumes nothing.
-use mathlib.Core.Path.{◌≡◌, ap}
-use lib.ListN.{length}
-use Rattle.base.proofs.Lists.{length_mapped}
-use Rattle.zhaqsumir.specs.Numbers.{chip_numbers}
-use Rattle.zhaqsumir.proofs.Counts.{all_places}
+use mathlib.Core.Path.{ap, ◌∙◌}
 use borrow.Author.Rules.{rules}
+use Rattle.std.specs.List.{flat_map}
+use Rattle.zhaqsumir.proofs.Counts.{four, no_counts, chips_flat}
+use Rattle.zhaqsumir.proofs.Made.{mapped}
 use Rattle.zhaqsumir.proofs.tallied.numbers_of.Goals as goal
 
 pub returns : goal.returns
 returns c =
-    let a = c.args in
-    let all : length a.chips ≡ 8 = search (rules, length_mapped) in
-    ap chip_numbers (all_places _ 8 a.chips all)
+    c.copy_from_slice.ensures.after
+    ∙ c.as_flattened.ensures.value
+    ∙ ap (flat_map (λ x. x)) (mapped four no_counts c.map.ensures.items (search rules) (λ p x y q call. search rules))
+    ∙ chips_flat c.args.chips

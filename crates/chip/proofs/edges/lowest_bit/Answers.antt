@@ -1,9 +1,0 @@
--- `chip::edges::lowest_bit` meets its contract: the field of one bit is tested.
--- Assumes nothing.
-use mathlib.Core.Path.{ap}
-use Prim.Native.Nat.{ℕ}
-use lib.Dec.{eqb}
-use Rattle.chip.proofs.edges.lowest_bit.Goals as goal
-
-pub returns : goal.returns
-returns c = ap (λ (x : ℕ). eqb x 1) c.field.ensures
