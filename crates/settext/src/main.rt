@@ -44,7 +44,7 @@ fn told(rt: HostRuntime) -> Option<Form> {
 fn turn(rt: HostRuntime, form: Form) -> io::Result<()> {
     let mut text = [0u8; ROOM];
     let mut rest = &mut text[..];
-    // a read that fails counts as the end
+    // a read that fails counts as the end, and one that a signal cut off is made again; a crate for these lines would be no plainer
     let _ = io::copy(&mut rt.stdin().take(ROOM as u64), &mut rest);
     let got = ROOM.saturating_sub(rest.len());
     match form {

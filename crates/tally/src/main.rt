@@ -44,7 +44,7 @@ fn fill(file: File, text: &mut [u8; ROOM]) -> usize
     ensures { result ≤ ROOM }
 {
     let mut rest = &mut text[..];
-    // what came before a read that failed is kept
+    // what came before a read that failed is kept, and one that a signal cut off is made again
     let _ = io::copy(&mut file.take(ROOM as u64), &mut rest);
     ROOM.saturating_sub(rest.len())
 }
