@@ -1,8 +1,8 @@
 // Replays a text of two wires and writes the segments lit: standard input to standard output. All the work is in the library `wires`.
 #![tactic(auto)]
 
-use std::io;
 use std::io::Read;
+use std::{io, mem};
 
 // One byte more than the longest text.
 const ROOM: usize = 65537;
@@ -11,8 +11,15 @@ fn main(rt: HostRuntime) -> io::Result<()> {
     let mut text = [0u8; ROOM];
     let mut out = [0u8; wires::ROOM];
     let mut rest = &mut text[..];
-    // a read that fails counts as the end, and one that a signal cut off is made again; a crate for these lines would be no plainer
-    let _ = io::copy(&mut rt.stdin().take(ROOM as u64), &mut rest);
+    // straight into the text: `io::copy` has 8,192 bytes of its own, and would lose what a longer message has beyond these
+    for _ in 0..ROOM {
+        // a read that fails counts as the end
+        let count = rt.stdin().read(rest).unwrap_or(0);
+        if count == 0 {
+            break;
+        }
+        rest = &mut mem::take(&mut rest)[count..];
+    }
     let got = ROOM.saturating_sub(rest.len());
     let r = wires::screen(&text[..got], &mut out);
     rt.write_all(&out[..r.bytes])

@@ -3,8 +3,8 @@
 #![tactic(auto)]
 
 use std::env::{Env, FillError};
-use std::io;
 use std::io::Read;
+use std::{io, mem};
 
 // One byte more than the longest text.
 const ROOM: usize = settings::LONGEST + 1;
@@ -44,8 +44,15 @@ fn told(rt: HostRuntime) -> Option<Form> {
 fn turn(rt: HostRuntime, form: Form) -> io::Result<()> {
     let mut text = [0u8; ROOM];
     let mut rest = &mut text[..];
-    // a read that fails counts as the end, and one that a signal cut off is made again; a crate for these lines would be no plainer
-    let _ = io::copy(&mut rt.stdin().take(ROOM as u64), &mut rest);
+    // straight into the text, as the programs do that read a longer one
+    for _ in 0..ROOM {
+        // a read that fails counts as the end
+        let count = rt.stdin().read(rest).unwrap_or(0);
+        if count == 0 {
+            break;
+        }
+        rest = &mut mem::take(&mut rest)[count..];
+    }
     let got = ROOM.saturating_sub(rest.len());
     match form {
         Form::Text => again(rt, &text[..got]),

@@ -9,7 +9,7 @@ use std::env::{Env, FillError};
 use std::fs::{File, OpenOptions};
 use std::io::{Read, Write};
 use std::rt::Files;
-use std::{io, str};
+use std::{io, mem, str};
 use tallies::Tally;
 
 // One byte more than the longest text.
@@ -40,12 +40,18 @@ fn tell(rt: HostRuntime, name: &[u8], why: io::Error) {
 }
 
 // Reads until the text is full, the file ends or a read fails, and returns how many bytes came.
-fn fill(file: File, text: &mut [u8; ROOM]) -> usize
+fn fill(mut file: File, text: &mut [u8; ROOM]) -> usize
     ensures { result ≤ ROOM }
 {
     let mut rest = &mut text[..];
-    // what came before a read that failed is kept, and one that a signal cut off is made again
-    let _ = io::copy(&mut file.take(ROOM as u64), &mut rest);
+    // straight into the text, as the programs do that read a text from standard input
+    for _ in 0..ROOM {
+        let count = file.read(rest).unwrap_or(0);
+        if count == 0 {
+            break;
+        }
+        rest = &mut mem::take(&mut rest)[count..];
+    }
     ROOM.saturating_sub(rest.len())
 }
 
