@@ -28,8 +28,14 @@ fn rise_line(what: Report, k: u8, chip: Chip, out: &mut [u8], at: usize) -> usiz
 {
     match what {
         Report::Words => {
-            let [high, low] = chip.line.register.to_be_bytes();
-            lines::put_line(&[0x10, k, high, low], out, at)
+            let w = chip.line.register;
+            let bytes = [
+                0x10,
+                k,
+                base::field(w, 8, 8) as u8,
+                base::field(w, 0, 8) as u8,
+            ];
+            lines::put_line(&bytes, out, at)
         }
         Report::Screen => screen_line(k, chip, out, at),
     }
