@@ -10,8 +10,6 @@ use crate::chips;
 use crate::panels::{CHIP, PANEL};
 use base::Refusal;
 use chain::Chain;
-use chip::Chip;
-use std::array;
 
 // Whether each number of the first n chips is one that its field can hold.
 fn are_fitting(numbers: &[u64], n: usize) -> bool
@@ -38,23 +36,18 @@ pub(crate) fn tested(numbers: &[u64; PANEL]) -> Result<(), Refusal>
     Ok(())
 }
 
-// Chip k; from N on a reset chip.
-fn chip_in(numbers: &[u64], k: usize) -> Chip
-    requires { 2 + 25 * k ≤ length numbers.now }
-    ensures { result ≡ P.record_in numbers.now k }
-{
-    if k >= numbers[0] as usize {
-        return chip::reset_chip();
-    }
-    chips::chip_of(&numbers[2 + CHIP * k..])
-}
-
-// The chain that the numbers stand for.
+// The chain that the numbers stand for; from N on its chips are reset chips.
 pub(crate) fn chain_of(numbers: &[u64; PANEL]) -> Chain
     ensures { result ≡ P.chain_of numbers.now }
 {
+    let n = numbers[0] as usize;
+    let mut chips = [chip::reset_chip(); chain::MOST];
+    let first = &mut chips[..n.min(chain::MOST)];
+    for (k, chip) in first.iter_mut().enumerate() {
+        *chip = chips::chip_of(&numbers[2 + CHIP * k..]);
+    }
     Chain {
-        chips: array::from_fn(|k| chip_in(numbers, k)),
+        chips,
         levels: chips::byte_at(numbers, 1),
     }
 }
